@@ -1,0 +1,65 @@
+-- A spelling determines its word, so chains of spelled words compose.
+use Rattle.std.proofs.Common.{◌≡◌, ℕ, List, [], ◌∷◌, ◌++◌, map, refl, sym, ◌∙◌, ap, ap₂, subst}
+use Rattle.lie_field.specs.FiniteField.{FiniteField}
+use Rattle.lie_field.specs.Elements.{NonZero, same_nonzero}
+use Rattle.lie_letters.specs.declared.letter.Letter.{Letter as CodeLetter}
+use Rattle.lie_letters.specs.Torus.{same_torus}
+use Rattle.lie_letters.specs.Setting.{FrameData, setting, dim}
+use Rattle.lie_letters.specs.Words.{Letter, Word, H, Joined}
+use Rattle.lie_letters.specs.Spelled.{numbers, spelled, JoinedSpelled}
+use Rattle.lie_letters.proofs.Chains.{trans, flip, both}
+
+same_numbers : (f : FiniteField) (t u : List (NonZero f)) → numbers f t ≡ numbers f u → t ≡ u
+same_numbers f [] [] e = refl
+same_numbers f [] (b ∷ u) e = cc
+same_numbers f (a ∷ t) [] e = cc
+same_numbers f (a ∷ t) (b ∷ u) e =
+    let first : a.element.number ≡ b.element.number = cc in
+    let rest : numbers f t ≡ numbers f u = cc in
+    ap₂ ◌∷◌ (same_nonzero f a b first) (same_numbers f t u rest)
+
+pub spelled_injective : (f : FrameData) (a b : Letter (setting f)) → spelled f a ≡ spelled f b → a ≡ b
+spelled_injective f (H t) (H u) e =
+    let entries : numbers f.field t.entries ≡ numbers f.field u.entries = cc in
+    ap H (same_torus f.field (dim f) t u (same_numbers f.field t.entries u.entries entries))
+
+module _ (f : FrameData) where
+  pub words_same : (u v : Word (setting f)) → map (spelled f) u ≡ map (spelled f) v → u ≡ v
+  words_same [] [] e = refl
+  words_same [] (b ∷ v) e = cc
+  words_same (a ∷ u) [] e = cc
+  words_same (a ∷ u) (b ∷ v) e =
+      let first : spelled f a ≡ spelled f b = cc in
+      let rest : map (spelled f) u ≡ map (spelled f) v = cc in
+      ap₂ ◌∷◌ (spelled_injective f a b first) (words_same u v rest)
+
+  map-append : (u v : Word (setting f)) → map (spelled f) (u ++ v) ≡ map (spelled f) u ++ map (spelled f) v
+  map-append [] v = refl
+  map-append (a ∷ u) v = ap (λ w. spelled f a ∷ w) (map-append u v)
+
+  pub JoinedSpelled-trans : (u v w : List CodeLetter) → JoinedSpelled f u v → JoinedSpelled f v w → JoinedSpelled f u w
+  JoinedSpelled-trans u v w d e = record {
+    left = d.left;
+    right = e.right;
+    left_spelled = d.left_spelled;
+    right_spelled = e.right_spelled;
+    joined = trans d.joined (subst (λ z. Joined (setting f) z e.right) (words_same e.left d.right (e.left_spelled ∙ sym d.right_spelled)) e.joined);
+  }
+
+  pub JoinedSpelled-flip : (u v : List CodeLetter) → JoinedSpelled f u v → JoinedSpelled f v u
+  JoinedSpelled-flip u v d = record {
+    left = d.right;
+    right = d.left;
+    left_spelled = d.right_spelled;
+    right_spelled = d.left_spelled;
+    joined = flip d.joined;
+  }
+
+  pub JoinedSpelled-append : (u v u' v' : List CodeLetter) → JoinedSpelled f u v → JoinedSpelled f u' v' → JoinedSpelled f (u ++ u') (v ++ v')
+  JoinedSpelled-append u v u' v' d e = record {
+    left = d.left ++ e.left;
+    right = d.right ++ e.right;
+    left_spelled = map-append d.left e.left ∙ ap₂ ◌++◌ d.left_spelled e.left_spelled;
+    right_spelled = map-append d.right e.right ∙ ap₂ ◌++◌ d.right_spelled e.right_spelled;
+    joined = both d.joined e.joined;
+  }
