@@ -1,13 +1,18 @@
--- A spelling determines its word, so chains of spelled words compose.
-use Rattle.std.proofs.Common.{◌≡◌, ℕ, List, [], ◌∷◌, ◌++◌, map, refl, sym, ◌∙◌, ap, ap₂, subst}
+-- A spelling determines its word, so chains of spelled words compose; joined words are words of the frame.
+use Rattle.std.proofs.Common.{◌≡◌, List, [], ◌∷◌, ◌++◌, map, refl, sym, ◌∙◌, ap, ap₂, subst}
+use Rattle.std.proofs.Math.Facts.{eqb_yes}
+use Rattle.lie_letters.specs.declared.letter.Letter.TheVariants.{H as CodeH}
+use Rattle.lie_letters.proofs.TorusLemmas.{torus_of, length-numbers, AreUnits-numbers}
 use Rattle.lie_field.specs.FiniteField.{FiniteField}
 use Rattle.lie_field.specs.Elements.{NonZero, same_nonzero}
 use Rattle.lie_letters.specs.declared.letter.Letter.{Letter as CodeLetter}
 use Rattle.lie_letters.specs.Torus.{same_torus}
 use Rattle.lie_letters.specs.Setting.{FrameData, setting, dim}
-use Rattle.lie_letters.specs.Words.{Letter, Word, H, Joined}
-use Rattle.lie_letters.specs.Spelled.{numbers, spelled, JoinedSpelled}
-use Rattle.lie_letters.proofs.Chains.{trans, flip, both}
+use Rattle.lie_letters.specs.Letters.{Letter, Word, H}
+use Rattle.lie_letters.specs.Relations.{Joined}
+use Rattle.lie_letters.specs.Spelled.{numbers, spelled, JoinedSpelled, IsWordOver}
+use Rattle.lie_letters.proofs.ChainLemmas.{trans, flip, both}
+use Rattle.lie_letters.specs.Chains.{same}
 
 same_numbers : (f : FiniteField) (t u : List (NonZero f)) → numbers f t ≡ numbers f u → t ≡ u
 same_numbers f [] [] e = refl
@@ -63,3 +68,25 @@ module _ (f : FrameData) where
     right_spelled = map-append d.right e.right ∙ ap₂ ◌++◌ d.right_spelled e.right_spelled;
     joined = both d.joined e.joined;
   }
+
+  -- a word of the frame, as letters of the setting
+  pub word_of : (u : List CodeLetter) → IsWordOver f u → (w : Word (setting f)) × (map (spelled f) w ≡ u)
+  word_of [] h = ([], refl)
+  word_of (CodeH t ∷ u) h =
+      let x = torus_of f t h.0.1 h.0.0 in
+      let w = word_of u h.1 in
+      (H x.0 ∷ w.0, ap₂ (λ a b. CodeH a ∷ b) x.1 w.1)
+
+  pub JoinedSpelled-refl : (u : List CodeLetter) → IsWordOver f u → JoinedSpelled f u u
+  JoinedSpelled-refl u h =
+      let w = word_of u h in
+      record { left = w.0; right = w.0; left_spelled = w.1; right_spelled = w.1; joined = same }
+
+  IsWordOver-spelled : (w : Word (setting f)) → IsWordOver f (map (spelled f) w)
+  IsWordOver-spelled [] = tt
+  IsWordOver-spelled (H t ∷ w) =
+      ((sym (length-numbers f.field t.entries ∙ eqb_yes t.long), AreUnits-numbers f.field t.entries), IsWordOver-spelled w)
+
+  -- the first of two joined words is a word of the frame
+  pub JoinedSpelled-over : (u v : List CodeLetter) → JoinedSpelled f u v → IsWordOver f u
+  JoinedSpelled-over u v d = subst (IsWordOver f) d.left_spelled (IsWordOver-spelled d.left)

@@ -1,7 +1,7 @@
 -- Joined words: an equivalence, kept under appending on both sides.
 use Rattle.std.proofs.lemmas.List.{append-nil}
-use Rattle.std.proofs.Common.{◌≡◌, ℕ, List, [], ◌∷◌, ◌++◌, refl, sym, ap, subst, append_assoc}
-use Rattle.lie_letters.specs.Rewriting.{StepBy, JoinedBy, forward, backward, same, next}
+use Rattle.std.proofs.Common.{List, [], ◌∷◌, ◌++◌, refl, subst, append_assoc}
+use Rattle.lie_letters.specs.Chains.{StepBy, JoinedBy, forward, backward, same, next, IsChain}
 
 module _ {A : Type 0} {R : List A → List A → Type 0} where
   pub turned : {u v : List A} → StepBy R u v → StepBy R v u
@@ -48,3 +48,12 @@ module _ {A : Type 0} {R : List A → List A → Type 0} where
   by_relation l r e =
       subst (λ u. JoinedBy R u r) (append-nil l)
       (subst (λ v. JoinedBy R (l ++ []) v) (append-nil r) (one_step (forward {l = l} {r = r} [] [] e)))
+
+  -- a chain is the list of the words between
+  pub chain_of : {u v : List A} → JoinedBy R u v → (between : List (List A)) × IsChain R u between v
+  chain_of same = ([], refl)
+  chain_of (next {v = w} s d) = let (between, c) = chain_of d in (w ∷ between, (s, c))
+
+  pub joined_by_chain : (u : List A) (between : List (List A)) (v : List A) → IsChain R u between v → JoinedBy R u v
+  joined_by_chain u [] v c = subst (λ w. JoinedBy R u w) c same
+  joined_by_chain u (w ∷ between) v c = next c.0 (joined_by_chain w between v c.1)
