@@ -3,7 +3,8 @@ use Rattle.std.proofs.Common.{◌≡◌, ℕ, List, [], ◌∷◌, ◌++◌, map
 use Rattle.std.specs.Prelude.{◌↔◌}
 use Rattle.lie_letters.specs.declared.letter.Letter.{Letter as CodeLetter}
 use Rattle.lie_letters.specs.declared.letter.Letter.TheVariants.{H as CodeH}
-use Rattle.lie_letters.specs.Torus.{Torus, torus_one, torus_mul, torus_assoc, torus_comm, torus_mul_one}
+use Rattle.lie_letters.specs.Torus.{Torus, torus_one, torus_mul}
+use Rattle.lie_letters.proofs.TorusLaws.{torus_assoc, torus_comm, torus_mul_one}
 use Rattle.lie_letters.specs.Setting.{FrameData, setting, dim}
 use Rattle.lie_letters.specs.Letters.{Word, H}
 use Rattle.lie_letters.specs.Chains.{StepBy, forward, backward, same, next}

@@ -6,7 +6,7 @@ use Rattle.lie_letters.proofs.TorusLemmas.{torus_of, length-numbers, AreUnits-nu
 use Rattle.lie_field.specs.FiniteField.{FiniteField}
 use Rattle.lie_field.specs.Elements.{NonZero, same_nonzero}
 use Rattle.lie_letters.specs.declared.letter.Letter.{Letter as CodeLetter}
-use Rattle.lie_letters.specs.Torus.{same_torus}
+use Rattle.lie_letters.proofs.TorusLaws.{same_torus}
 use Rattle.lie_letters.specs.Setting.{FrameData, setting, dim}
 use Rattle.lie_letters.specs.Letters.{Letter, Word, H}
 use Rattle.lie_letters.specs.Relations.{Joined}

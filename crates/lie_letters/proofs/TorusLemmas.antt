@@ -6,7 +6,8 @@ use Rattle.lie_field.specs.FiniteField.{FiniteField}
 use Rattle.lie_field.specs.Quotient.{order, mul, inv}
 use Rattle.lie_field.specs.Elements.{NonZero, unit_one, unit_mul, unit_inv}
 use Rattle.lie_letters.specs.declared.letter.Letter.TheVariants.{H as CodeH}
-use Rattle.lie_letters.specs.Torus.{Torus, each_mul, torus_one, torus_mul, torus_inv, torus_mul_inv}
+use Rattle.lie_letters.specs.Torus.{Torus, each_mul, torus_one, torus_mul, torus_inv}
+use Rattle.lie_letters.proofs.TorusLaws.{torus_mul_inv}
 use Rattle.lie_letters.specs.Setting.{FrameData, setting, dim}
 use Rattle.lie_letters.specs.Letters.{H}
 use Rattle.lie_letters.specs.Relations.{Joined, S0-torus, S3}

@@ -1,5 +1,7 @@
 //! Laws of joined words.
 ghost use Rattle.std.specs.Prelude.{◌≡◌, ◌↔◌, ℕ, List, [], ◌∷◌, ◌++◌};
+ghost use Rattle.lie_field.specs.FiniteField.{FiniteField};
+ghost use Rattle.lie_letters.specs.Entries.{IsTorusGroup};
 ghost use Rattle.lie_letters.specs.Chains.{IsChain};
 ghost use Rattle.lie_letters.specs.Setting.{FrameData, setting};
 ghost use Rattle.lie_letters.specs.Letters.{Word};
@@ -7,6 +9,12 @@ ghost use Rattle.lie_letters.specs.Relations.{Relation, Joined};
 ghost use Rattle.lie_letters.specs.Spelled.{JoinedSpelled, IsWordOver, reversed};
 
 use crate::letter::Letter;
+
+/// The vectors of units of one length are a commutative group under `Torus::mul`, with `Torus::one` and
+/// `Torus::inv`.
+pub fn torus_is_a_group()
+    ensures { (f : FiniteField) → IsTorusGroup f }
+{}
 
 /// Words are joined exactly if there is a list of words, each one exchange from the word before it,
 /// that leads from one to the other.
