@@ -10,7 +10,7 @@ use Rattle.lie_letters.proofs.TorusLaws.{same_torus}
 use Rattle.lie_letters.specs.Setting.{FrameData, setting, dim}
 use Rattle.lie_letters.specs.Letters.{Letter, Word, H}
 use Rattle.lie_letters.specs.Relations.{Joined}
-use Rattle.lie_letters.specs.Spelled.{numbers, spelled, JoinedSpelled, IsWordOver}
+use Rattle.lie_letters.specs.Spelled.{numbers, spelled, JoinedSpelled, IsWordOver, IsWordOverField}
 use Rattle.lie_letters.proofs.ChainLemmas.{trans, flip, both}
 use Rattle.lie_letters.specs.Chains.{same}
 
@@ -90,3 +90,8 @@ module _ (f : FrameData) where
   -- the first of two joined words is a word of the frame
   pub JoinedSpelled-over : (u v : List CodeLetter) → JoinedSpelled f u v → IsWordOver f u
   JoinedSpelled-over u v d = subst (IsWordOver f) d.left_spelled (IsWordOver-spelled d.left)
+
+  -- a word of the frame is a word over its field
+  pub IsWordOverField-from_frame : (u : List CodeLetter) → IsWordOver f u → IsWordOverField f.field u
+  IsWordOverField-from_frame [] h = tt
+  IsWordOverField-from_frame (CodeH t ∷ u) h = (h.0.1, IsWordOverField-from_frame u h.1)
