@@ -27,6 +27,7 @@ times_each-inverses : (f : FiniteField) (t : List ℕ) → AreUnits f t → time
 times_each-inverses f [] h = refl
 times_each-inverses f (a ∷ t) h = ap₂ ◌∷◌ (Powers.mul-inv f.given (is_lawful f) a h.0.0 h.0.1) (times_each-inverses f t h.1)
 
+-- the vectors of units are a commutative group
 pub torus_group : (f : FiniteField) → IsTorusGroup f
 torus_group f = record {
   mul_assoc = times_each_assoc f;
