@@ -53,11 +53,13 @@ module _ (d : Roots) (loaded : IsLoaded d) where
   others : (i : ℕ) (r : Root) → IsSimpleIndex d.base i → IsRoot d.base r → IsPositive r → r ≢ simple i → IsPositive (reflected d.base i r) × (reflected d.base i r ≢ simple i)
   others zero r h p q n = absurd (let l = h.0 in omega (arith, l))
   others (suc i) r h p q n =
-      let b = d.base in
-      (stays d loaded i r h p q n, λ e.
-      (let back = sym (reflected_twice b (short d loaded) loaded.axioms.input.corank loaded.axioms.twos (suc i) r h (root_lengths b (short d loaded) loaded.axioms.input.corank r p))
-      ∙ ap (reflected b (suc i)) e ∙ own (suc i) h in
-      not_opposite r (simple (suc i)) p q (simple_is_positive d loaded i h) back))
+      let b = d.base in (
+        stays d loaded i r h p q n,
+        λ e.
+            (let back = sym (reflected_twice b (short d loaded) loaded.axioms.input.corank loaded.axioms.twos (suc i) r h (root_lengths b (short d loaded) loaded.axioms.input.corank r p))
+            ∙ ap (reflected b (suc i)) e ∙ own (suc i) h in
+            not_opposite r (simple (suc i)) p q (simple_is_positive d loaded i h) back),
+      )
     where
       not_opposite : (r s : Root) → IsRoot d.base r → IsPositive r → IsPositive s → r ≡ opposite s → ⊥
       not_opposite r s p q t e = not_both d loaded r p (subst IsNegative (sym e) (opposite_negative s.coeffs t)) q
