@@ -5,11 +5,11 @@ use Rattle.std.proofs.lemmas.Nat.{mul-mod_first}
 use Rattle.std.proofs.lemmas.Bool.{cases_eq}
 use Rattle.lie_field.specs.Quotient.{degree, order, power, IsFieldData}
 use Rattle.lie_field.specs.FiniteField.{FiniteField}
-use Rattle.lie_field.specs.FieldTest.{is_lawful}
+use Rattle.lie_field.specs.Algebra.FieldTest.{is_lawful}
 use Rattle.lie_field.specs.Faults.{IsFault, IsSized}
-use Rattle.lie_field.specs.declared.FieldFault.{FieldFault}
-use Rattle.lie_field.specs.declared.FieldFault.TheVariants.{NoMemory, Size, Coefficient, Element, Generator}
-use Rattle.lie_field.proofs.Prime.{mul_prime, order_prime}
+use Rattle.lie_field.specs.declared.faults.FieldFault.{FieldFault}
+use Rattle.lie_field.specs.declared.faults.FieldFault.TheVariants.{NoMemory, Size, Coefficient, Element, Generator}
+use Rattle.lie_session.proofs.PrimeLemmas.{mul_prime, order_prime}
 use Rattle.lie_session.specs.FieldLines.{prime_data, IsWithin, IsNoField, IsFieldOf}
 
 -- the field of these data has p elements
@@ -53,8 +53,8 @@ unfolding degree
 no_field-fault p g NoMemory some h = absurd (some refl)
 no_field-fault p g Size some h = inl (λ w. h (within_sized p g w))
 no_field-fault p g (Coefficient i) some h =
-    let first : i ≡ 0 = omega (arith, h.1) in
-    let small : p ≤ get_or (0 ∷ []) i 0 = h.2 in
+    let first : i ≡ 0 = omega (arith, h.1.0) in
+    let small : p ≤ get_or (0 ∷ []) i 0 = h.1.1 in
     let none : p ≤ 0 = subst (λ k. p ≤ get_or (0 ∷ []) k 0) first small in
     let no : ⊥ = omega (arith, none, h.0.p_large) in absurd no
 no_field-fault p g Element some h = elim h.2 [ inl none ↦ inr (inl (inl none)) | inr large ↦ inr (inl (inr (subst (λ k. k ≤ g) (order_is p g) large))) ]

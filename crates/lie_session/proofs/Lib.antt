@@ -5,6 +5,7 @@ pub mod DigitLemmas
 pub mod LoopLemmas
 pub mod PieceLemmas
 pub mod SpacedLemmas
+pub mod PrimeLemmas
 pub mod FieldLineLemmas
 pub mod SoundLemmas
 pub mod ProductLemmas
@@ -15,3 +16,4 @@ pub mod ProgressLemmas
 pub mod CauseLemmas
 pub mod TextLemmas
 pub mod OneOutputLemmas
+pub mod WorkedExamples

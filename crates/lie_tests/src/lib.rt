@@ -1,6 +1,6 @@
 //! Scripts with known replies, and the tests of the whole program over them.
 //!
-//! The constants are scripts that tests of several crates share; the tests run `lie_session::lie`
+//! The constants are scripts that several tests share; the tests run `lie_session::lie`
 //! over sources and sinks in memory. No other crate stands on this one, and no theorem.
 #![tactic(auto)]
 

@@ -53,10 +53,22 @@ fn worked_rows(rt: HostRuntime) -> Result<(), Fail> {
             "loaded 7 2 0 2\n- | 1 4 | - | -\n",
             Status::Done,
         ),
-        ("field 2 1 0 1\ndatum 1 0\n\n", "refused 3 end\n", Status::LoadRefused),
+        (
+            "field 2 1 0 1\ndatum 1 0\n\n",
+            "refused 3 end\n",
+            Status::LoadRefused,
+        ),
         ("form 1\nload\n", "refused 1 line\n", Status::LoadRefused),
-        ("field 5 1 0 2\ndatum 1 0\nload x\nload\n", "refused 3 line\n", Status::LoadRefused),
-        ("\n\nfield 4 1 0 3\n", "refused 3 field\n", Status::LoadRefused),
+        (
+            "field 5 1 0 2\ndatum 1 0\nload x\nload\n",
+            "refused 3 line\n",
+            Status::LoadRefused,
+        ),
+        (
+            "\n\nfield 4 1 0 3\n",
+            "refused 3 field\n",
+            Status::LoadRefused,
+        ),
     ];
     for (script, output, status) in cases {
         let input = Vec::from_slice(rt.alloc(), script.as_bytes())?;
@@ -71,16 +83,83 @@ fn worked_rows(rt: HostRuntime) -> Result<(), Fail> {
 fn failing_streams(rt: HostRuntime) -> Result<(), Fail> {
     // the run over the first worked row, its output, its status
     let cases = [
-        (Run { piece: 1, ..PLAIN }, "loaded 5 1 0 1\n- | 1 | - | -\n", Status::Done),
-        (Run { pulls: &[1], ..PLAIN }, "", Status::ReadFault),
-        (Run { pulls: &[2], ..PLAIN }, "", Status::ReadFault),
-        (Run { pushes: &[1], ..PLAIN }, "", Status::WriteFault),
-        (Run { pushes: &[2], ..PLAIN }, "loaded 5 1 0 1\n", Status::WriteFault),
-        (Run { words: &["demo", "0"], ..PLAIN }, "", Status::Usage),
-        (Run { words: &["demo", "01"], ..PLAIN }, "", Status::Usage),
-        (Run { words: &["walk"], ..PLAIN }, "", Status::Usage),
-        (Run { words: &[], ..PLAIN }, "", Status::Usage),
-        (Run { words: &["run", "run"], ..PLAIN }, "", Status::Usage),
+        (
+            Run { piece: 1, ..PLAIN },
+            "loaded 5 1 0 1\n- | 1 | - | -\n",
+            Status::Done,
+        ),
+        (
+            Run {
+                pulls: &[1],
+                ..PLAIN
+            },
+            "",
+            Status::ReadFault,
+        ),
+        (
+            Run {
+                pulls: &[2],
+                ..PLAIN
+            },
+            "",
+            Status::ReadFault,
+        ),
+        (
+            Run {
+                pushes: &[1],
+                ..PLAIN
+            },
+            "",
+            Status::WriteFault,
+        ),
+        (
+            Run {
+                pushes: &[2],
+                ..PLAIN
+            },
+            "loaded 5 1 0 1\n",
+            Status::WriteFault,
+        ),
+        (
+            Run {
+                words: &["demo", "0"],
+                ..PLAIN
+            },
+            "",
+            Status::Usage,
+        ),
+        (
+            Run {
+                words: &["demo", "01"],
+                ..PLAIN
+            },
+            "",
+            Status::Usage,
+        ),
+        (
+            Run {
+                words: &["walk"],
+                ..PLAIN
+            },
+            "",
+            Status::Usage,
+        ),
+        (
+            Run {
+                words: &[],
+                ..PLAIN
+            },
+            "",
+            Status::Usage,
+        ),
+        (
+            Run {
+                words: &["run", "run"],
+                ..PLAIN
+            },
+            "",
+            Status::Usage,
+        ),
     ];
     for (run, output, status) in cases {
         let input = Vec::from_slice(rt.alloc(), PRODUCT.as_bytes())?;
@@ -213,7 +292,11 @@ fn the_limits_of_a_line(rt: HostRuntime) -> Result<(), Fail> {
         }
         script.extend_from_slice(end.as_bytes())?;
         let (status, _sink) = PLAIN.over(rt.alloc(), script)?;
-        let wanted = if accepted { Status::Done } else { Status::Refused };
+        let wanted = if accepted {
+            Status::Done
+        } else {
+            Status::Refused
+        };
         assert_eq!(rt; status, wanted, "at {count}");
     }
     // the number of letters `h(2)`, the output behind that of `load`
