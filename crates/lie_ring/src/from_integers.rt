@@ -9,6 +9,7 @@ use crate::roomy::roomy_of_int;
 use std::alloc::{AllocError, Global};
 
 /// The homomorphism from the integers to a roomy ring, which carries n to `of_int` of n.
+#[derive(Drop)]
 pub struct FromIntegers<'a, R: Ring> {
     ints: &'a Ints,
     ring: &'a R,
