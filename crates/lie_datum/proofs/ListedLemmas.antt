@@ -1,5 +1,5 @@
 -- The roots of a base whose positive roots are listed: the list with the opposites has every root, once.
-use Rattle.std.proofs.Common.{◌≡◌, ◌≢◌, ℕ, zero, suc, ◌+◌, ◌*◌, ◌<◌, ◌≤◌, ℤ, pos, negsuc, ◌≤ℤ◌, ◌<ℤ◌, List, [], ◌∷◌, ◌++◌, length, map, refl, sym, ap, subst, ◌∙◌, arith, ◌⊎◌, inl, inr, ⊎_elim, length-append}
+use Rattle.std.proofs.Common.{◌≡◌, ℕ, zero, suc, ◌<◌, ◌≤◌, ℤ, pos, negsuc, ◌≤ℤ◌, ◌<ℤ◌, List, [], ◌∷◌, ◌++◌, length, map, refl, sym, ap, subst, ◌∙◌, arith, ◌⊎◌, inl, inr, ⊎_elim, length-append}
 use Rattle.std.proofs.lemmas.Int.{ints, by_lt_z}
 use Rattle.std.proofs.lemmas.List.{get_or_default}
 use Rattle.std.proofs.Math.ListN.{length-map}
@@ -7,8 +7,8 @@ use Rattle.std.specs.List.{All, Any, AllByRecursion}
 use Rattle.std.specs.List.Sorted.{IsStrictlySortedBy}
 use Rattle.std.specs.declared.cmp.Ordering.TheVariants.{Less}
 use Rattle.lie_datum.specs.Vectors.{Vector, times, minus}
-use Rattle.lie_datum.specs.RootDatum.{Base, Root, opposite, root_pairing, IsRoot, IsPositive, IsNegative, IsUnmixed, IsCartan, IsFinite}
-use Rattle.lie_datum.specs.RootList.{Roots, root_cmp, IsPositiveList, all_roots}
+use Rattle.lie_datum.specs.RootDatum.{Base, Root, opposite, root_pairing, IsRoot, IsPositive, IsUnmixed, IsCartan, IsFinite}
+use Rattle.lie_datum.specs.RootList.{root_cmp, IsPositiveList}
 use Rattle.lie_datum.proofs.Entries.{entry, entry-times, entry_past, within_or_past, length-times, same_entries}
 use Rattle.lie_datum.proofs.Members.{In, here, there, IsSimpleList, in_map, from_map, map_simple}
 use Rattle.lie_datum.proofs.ClosureLemmas.{in_from_contains, contains_from_in, pigeonhole}

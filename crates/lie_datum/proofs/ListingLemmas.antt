@@ -1,26 +1,24 @@
 -- How the positive roots are picked and sorted, and the greatest mixed vector found.
-use Rattle.std.proofs.Common.{◌≡◌, ◌≢◌, ℕ, zero, suc, ◌+◌, ◌<◌, ◌≤◌, ℤ, pos, Bool, true, false, List, [], ◌∷◌, ◌++◌, length, get_or, take, map, refl, sym, ap, subst, ◌∙◌, arith, ◌⊎◌, inl, inr, ⊎_elim, length-append, Option, None, Some, Result, Ok, Err, IfOk}
-use Rattle.std.proofs.lemmas.List.{get_or_append_left, get_or-append-add, get_or_default, take_more, take_all}
+use Rattle.std.proofs.Common.{◌≡◌, ◌≢◌, ℕ, ◌+◌, ◌<◌, pos, Bool, false, List, [], ◌∷◌, ◌++◌, length, get_or, map, refl, sym, ap, subst, ◌∙◌, arith, ◌⊎◌, ⊎_elim, length-append, Option, None, Some, Result, Ok, Err, IfOk}
+use Rattle.std.proofs.lemmas.List.{get_or_append_left, get_or-append-add}
 use Rattle.std.proofs.Math.ListN.{length-map, get_or-map}
 use Rattle.std.proofs.lemmas.List.Sorted.{IsPermutation-map, IsPermutation-sym, Contains-permutation, All-permutation}
 use Rattle.std.proofs.lemmas.Map.Keys.{IsDistinct-from_apart, IsDistinct-IsPermutation, apart_from_distinct, sorted_from_all_adjacent}
-use Rattle.std.specs.Cmp.{IsTotalOrder}
 use Rattle.std.specs.List.{All, Contains, IsDistinct}
 use Rattle.std.specs.List.Sorted.{IsPermutation, IsSorted, IsStrictlySortedBy}
-use Rattle.std.specs.Ordering.{int_cmp, eq_by_cmp, is_eq, is_lt, is_gt, ordering_reverse, ordering_then}
+use Rattle.std.specs.Ordering.{int_cmp, eq_by_cmp, is_eq, is_lt, ordering_reverse, ordering_then}
 use Rattle.std.specs.Cmp.Lexicographic.{slice_cmp}
 use Rattle.std.specs.declared.cmp.Ordering.{Ordering}
 use Rattle.std.specs.declared.cmp.Ordering.TheVariants.{Less, Equal, Greater}
 use Rattle.lie_datum.specs.declared.listing.Ranked.{Ranked}
 use Rattle.lie_datum.specs.Vectors.{Vector}
-use Rattle.lie_datum.specs.RootDatum.{Base, Root, IsRoot, IsPositive, IsMixed, IsUnmixed, IsCartan, IsFinite, IsSmall, opposite}
+use Rattle.lie_datum.specs.RootDatum.{Base, Root, IsPositive, IsMixed, IsUnmixed, IsFinite, IsSmall}
 use Rattle.lie_datum.specs.RootList.{root_cmp, height, IsPositiveList}
-use Rattle.lie_datum.specs.Closure.{IsDistinctList, ListsRoots, IsClosing}
+use Rattle.lie_datum.specs.Closure.{IsDistinctList, ListsRoots}
 use Rattle.lie_datum.specs.Load.{IsGreatestMixed}
 use Rattle.lie_datum.specs.Listing.{IsPicked, IsRanked, ranked_root, IsGreatestMixedIn, IsGreatestMixedOf}
-use Rattle.lie_datum.proofs.Members.{In}
 use Rattle.lie_datum.proofs.Roots.{same_root}
-use Rattle.lie_datum.proofs.ClosureLemmas.{contains_from_in, in_from_contains, in_at, in_last, roots_push, distinct_push, Contains-append, split_last}
+use Rattle.lie_datum.proofs.ClosureLemmas.{contains_from_in, in_at, in_last, roots_push, distinct_push, Contains-append}
 use Rattle.lie_datum.proofs.RootOrder.{root_total, slices_total, equal_slices, not_above}
 use Rattle.std.proofs.lemmas.Cmp.{tied_itself}
 
@@ -29,7 +27,7 @@ pub distinct_front : (xs : List Root) (x : Root) → IsDistinctList (xs ++ x ∷
 distinct_front xs x h = (
   (λ j k d l m e. h j k d l (omega (arith, m, length-append xs (x ∷ []))) (get_or_append_left xs (x ∷ []) d j (omega (arith, l, m)) ∙ e ∙ sym (get_or_append_left xs (x ∷ []) d k m))),
   λ c. (let low = c.1 in
-  h c.0 (length xs + 0) x (omega (arith, low)) (omega (arith, length-append xs (x ∷ []))) (get_or_append_left xs (x ∷ []) x c.0 low ∙ c.2 ∙ sym (get_or-append-add xs (x ∷ []) 0 x))),
+      h c.0 (length xs + 0) x (omega (arith, low)) (omega (arith, length-append xs (x ∷ []))) (get_or_append_left xs (x ∷ []) x c.0 low ∙ c.2 ∙ sym (get_or-append-add xs (x ∷ []) 0 x))),
 )
 
 -- ---- picking

@@ -1,23 +1,22 @@
 -- How the tables of a datum are filled.
-use Rattle.std.proofs.Common.{◌≡◌, ◌≢◌, ℕ, zero, suc, ◌+◌, ◌*◌, ◌<◌, ◌≤◌, ℤ, pos, ◌+ℤ◌, ◌*ℤ◌, Bool, true, false, cond, List, [], ◌∷◌, ◌++◌, length, get_or, take, map, refl, sym, ap, subst, ◌∙◌, arith, ◌⊎◌, inl, inr, ⊎_elim, length-append, append_assoc, Option, None, Some, unsigned_abs, lit<, ◌^◌, add-one}
+use Rattle.std.proofs.Common.{◌≡◌, ℕ, zero, suc, ◌+◌, ◌*◌, ◌<◌, ◌≤◌, ℤ, pos, ◌+ℤ◌, ◌*ℤ◌, Bool, true, false, cond, List, [], ◌∷◌, ◌++◌, length, get_or, take, map, refl, sym, ap, ◌∙◌, arith, inl, inr, ⊎_elim, length-append, append_assoc, Option, None, Some, unsigned_abs, lit<, add-one}
 use Rattle.std.specs.Option.{IsSome}
 use Rattle.std.proofs.lemmas.List.{get_or_append_left, get_or-append-add, get_or_default, take_more, take_all, map-append}
 use Rattle.std.proofs.Math.ListN.{length-map, get_or-map}
 use Rattle.std.proofs.Math.IntN.{+ℤ_comm, +ℤ_assoc}
-use Rattle.std.specs.List.{All, Contains, range_with_len}
+use Rattle.std.specs.List.{range_with_len}
 use Rattle.std.specs.Ordering.{int_eq}
 use Rattle.std.specs.Cmp.Rules.{signed_items}
 use lib.Pointwise.{pointwise}
 use mir.Val.{to_z, of_z}
 use mir.Syntax.{w128}
-use Rattle.std.specs.Int.RustNames.{FitsSigned}
 use Rattle.lie_datum.specs.Vectors.{Vector, total}
 use Rattle.lie_datum.specs.Numbers.{number_at}
-use Rattle.lie_datum.specs.RootDatum.{Base, Root, rank, IsRoot, is_simple, is_reflected, IsSimpleIndex}
-use Rattle.lie_datum.specs.Load.{NoneBefore, IsFirstPair}
+use Rattle.lie_datum.specs.RootDatum.{Base, Root, rank, IsRoot, is_simple, is_reflected}
+use Rattle.lie_datum.specs.Load.{NoneBefore}
 use Rattle.lie_datum.specs.Grids.{grid, IsSamePair, IsIndexed}
 use Rattle.lie_datum.proofs.Entries.{within_or_past}
-use Rattle.lie_datum.proofs.VectorLemmas.{plain, fits, abs_add, abs_mul, sum_is}
+use Rattle.lie_datum.proofs.VectorLemmas.{plain, abs_add, abs_mul, sum_is}
 
 -- where there is a root, there is a simple one
 pub root_rank : (b : Base) (r : Root) → IsRoot b r → 1 ≤ rank b
