@@ -1,9 +1,9 @@
-use Rattle.std.proofs.Common.{◌≡◌, [], ◌∷◌, length, sym, ap, ◌∙◌, subst, arith}
+use Rattle.std.proofs.Common.{[], ◌∷◌, sym, ap, ◌∙◌, subst, arith}
 use Rattle.std.proofs.lemmas.Grind.{common_steps}
 use Rattle.lie_letters.specs.Entries.{AreUnits, times_each}
 use Rattle.lie_letters.specs.Spelled.{JoinedSpelled}
 use Rattle.lie_letters.specs.declared.letter.Letter.TheVariants.{H}
-use Rattle.lie_letters.proofs.Products.{product_joined}
+use Rattle.lie_letters.proofs.TorusLemmas.{product_joined}
 use Rattle.lie_letters.proofs.torus.Torus.mul.Goals as goal
 
 pub returns-clause-entries : goal.returns-clause-entries
