@@ -4,8 +4,8 @@ use Rattle.std.proofs.lemmas.Int.{ints, by_lt_z}
 use Rattle.lie_datum.specs.Vectors.{pairing, total}
 use Rattle.lie_datum.specs.RootDatum.{Root, IsRoot, vector, covector, root_pairing, opposite}
 use Rattle.lie_datum.specs.RootList.{Roots, IsLoaded, all_roots, length2}
-use Rattle.lie_datum.proofs.RingSolver.{ring, var, neg, ◌⊗◌}
-use Rattle.lie_datum.proofs.Members.{In, here, there}
+use Rattle.lie_base.proofs.RingSolver.{ring, var, neg, ◌⊗◌}
+use Rattle.lie_base.proofs.Members.{In, here, there}
 use Rattle.lie_datum.proofs.Squares.{square_within, factor_not_negative}
 use Rattle.lie_datum.proofs.FirstLaw.{form_comm}
 use Rattle.lie_datum.proofs.Turns.{pairing-combination-times}
