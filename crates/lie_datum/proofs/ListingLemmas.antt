@@ -17,7 +17,6 @@ use Rattle.lie_datum.specs.RootList.{root_cmp, height, IsPositiveList}
 use Rattle.lie_datum.specs.Closure.{IsDistinctList, ListsRoots}
 use Rattle.lie_datum.specs.Load.{IsGreatestMixed}
 use Rattle.lie_datum.specs.Listing.{IsPicked, IsRanked, ranked_root, IsGreatestMixedIn, IsGreatestMixedOf}
-use Rattle.lie_base.proofs.Members.{In}
 use Rattle.lie_datum.proofs.Roots.{same_root}
 use Rattle.lie_datum.proofs.ClosureLemmas.{contains_from_in, in_at, in_last, roots_push, distinct_push, Contains-append}
 use Rattle.lie_datum.proofs.RootOrder.{root_total, slices_total, equal_slices, not_above}

@@ -22,7 +22,7 @@ use Rattle.lie_datum.specs.Grids.{grid, IsSamePair, IsIndexed}
 use Rattle.lie_datum.specs.Table.{AreSums, AreImages, loaded_roots, IsTableOf}
 use Rattle.lie_datum.specs.Load.{IsFault, IsFirstPair, IsRepeated}
 use Rattle.lie_datum.specs.Listing.{IsListed}
-use Rattle.lie_base.proofs.Members.{In, total-map}
+use Rattle.lie_base.proofs.Members.{total-map}
 use Rattle.lie_datum.proofs.Entries.{within_or_past}
 use Rattle.lie_datum.proofs.ClosureLemmas.{contains_from_in}
 use Rattle.lie_datum.proofs.ListedLemmas.{order_in, order_only, listed_only}
