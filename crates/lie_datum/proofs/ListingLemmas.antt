@@ -32,6 +32,7 @@ distinct_front xs x h = (
 
 -- ---- picking
 module _ (P : Root → Type 0) where
+  -- at the start, one member that is picked, and one that isn't
   pub picked_none : IsPicked P [] []
   picked_none = record { only = λ r c. absurd (let l = c.1 in omega (arith, l)); every = λ r c p. c; once = λ h. h }
 
@@ -50,6 +51,7 @@ module _ (P : Root → Type 0) where
   }
 
 -- ---- sorting
+-- roots that tie are equal
 equal_order : (r s : Root) → root_cmp r s ≡ Equal → r ≡ s
 equal_order r s e = first (int_cmp (height r) (height s)) e
   where
@@ -69,6 +71,7 @@ equal_order r s e = first (int_cmp (height r) (height s)) e
 abbrev ties : Root → Root → Bool
 ties = eq_by_cmp root_cmp
 
+-- ties go both ways
 flips : (r s : Root) → ties r s ≡ ties s r
 flips r s = ap is_eq (root_total.antisymm r s) ∙ back (root_cmp s r)
   where
@@ -77,6 +80,7 @@ flips r s = ap is_eq (root_total.antisymm r s) ∙ back (root_cmp s r)
     back Equal = refl
     back Greater = refl
 
+-- different roots do not tie
 apart_list : (xs : List Root) → IsDistinctList xs → IsDistinct ties xs
 apart_list xs h = IsDistinct-from_apart ties xs (λ i j d l m. by (get_or xs i d) (get_or xs j d) (root_cmp (get_or xs i d) (get_or xs j d)) refl (h i j d l m))
   where
@@ -139,15 +143,18 @@ module _ (cmp : Ranked → Ranked → Ordering) (is : (x y : Ranked) → IsRanke
 abbrev pub ranked_cmp : Ranked → Ranked → Ordering
 ranked_cmp x y = ordering_then (int_cmp x.height y.height) (ordering_then (slice_cmp int_cmp y.root.0.coeffs x.root.0.coeffs) (slice_cmp int_cmp y.root.0.co_coeffs x.root.0.co_coeffs))
 
+-- it is the order of roots
 ranked_is : (x y : Ranked) → IsRanked x → IsRanked y → ranked_cmp x y ≡ root_cmp (ranked_root x) (ranked_root y)
 ranked_is x y p q =
     let rest = ordering_then (slice_cmp int_cmp y.root.0.coeffs x.root.0.coeffs) (slice_cmp int_cmp y.root.0.co_coeffs x.root.0.co_coeffs) in
     ap (λ t. ordering_then (int_cmp t y.height) rest) p ∙ ap (λ t. ordering_then (int_cmp (height x.root.0) t) rest) q
 
+-- the sorted list of what was picked is the list of positive roots
 pub positive_list : (b : Base) (rs : List Root) (xs ys zs : List Ranked) (ts : List Root) → ListsRoots b rs → IsPicked IsPositive rs (map ranked_root xs) → All IsRanked xs → IsPermutation xs ys → IsSorted ranked_cmp ys → zs ≡ ys → ts ≡ map ranked_root zs → IsPositiveList b ts
 positive_list b rs xs ys zs ts h pick ranks p s e f = subst (IsPositiveList b) (sym (f ∙ ap (map ranked_root) e)) (sorted_list ranked_cmp ranked_is b rs xs ys h pick ranks p s)
 
 -- ---- the greatest mixed vector
+-- at the start, a root that isn't mixed, the first that is, and one more
 pub no_mixed : IsGreatestMixedOf [] None
 no_mixed r c = absurd (let l = c.1 in omega (arith, l))
 
@@ -181,13 +188,16 @@ not_itself v e = let f = tied_itself slices_total v in cc
 pub finite_closure : (b : Base) (rs : List Root) → ListsRoots b rs → IsFinite b
 finite_closure b rs h = record { count = (rs, h.closing.short, λ r p. (h.roots r).1 p); small = λ r p. (h.closing.roots r ((h.roots r).1 p)).1 }
 
+-- its roots are small
 pub small_closure : (b : Base) (rs : List Root) → ListsRoots b rs → All IsSmall rs
 small_closure b rs h k d l = (h.closing.roots (get_or rs k d) (contains_from_in rs (get_or rs k d) (in_at rs k d l))).1
 
+-- a clause on `Ok` that follows from another
 pub ok_map : {A E : Type 0} (P Q : A → Type 0) → ((x : A) → P x → Q x) → (r : Result A E) → IfOk r P → IfOk r Q
 ok_map P Q f (Ok x) h = f x h
 ok_map P Q f (Err e) h = tt
 
+-- what holds of the list holds of the roots
 pub unmixed_closure : (b : Base) (rs : List Root) → ListsRoots b rs → ((r : Root) → Contains rs r → ¬ IsMixed r) → IsUnmixed b
 unmixed_closure b rs h n r p = n r ((h.roots r).1 p)
 

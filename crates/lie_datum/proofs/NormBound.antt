@@ -24,6 +24,7 @@ same_or_not r s = by (root_eq r s) refl
     by true e = inl (equal_roots r s e)
     by false e = inr (λ p. (let f = ap (root_eq r) p ∙ e in let g = root_eq-refl r in cc))
 
+-- the product of positive numbers is positive
 pub product_positive : (a b : ℤ) → pos 0 <ℤ a → pos 0 <ℤ b → pos 0 <ℤ (a *ℤ b)
 product_positive a b p q = by_lt_z (pos 0) (a *ℤ b) (λ l. l)
     (λ l. (let e = ring (a ∷ (b ∷ [])) (neg (var 0) ⊗ var 1) (neg (var 0 ⊗ var 1)) refl in
@@ -52,6 +53,7 @@ factor_small (negsuc a) m s r p q e h =
     let z = ring (negsuc a ∷ (m ∷ [])) (neg (var 0) ⊗ neg (var 1)) (var 0 ⊗ var 1) refl in
     positive_factor a (neg_ℤ m) s r p q (x ∙ ap neg_ℤ e ∙ sym y) (subst (λ t. t ≤ℤ pos 3) (sym z) h)
 
+-- a square of at most 9
 square_small : (n : ℤ) → unsigned_abs n ≤ 3 → (n *ℤ n) ≤ℤ pos 9
 square_small n h = below (n *ℤ n) (abs_mul n n 3 3 h h)
   where
@@ -59,11 +61,13 @@ square_small n h = below (n *ℤ n) (abs_mul n n 3 3 h h)
     below (pos k) l = omega (arith, ints, l)
     below (negsuc k) l = omega (arith, ints)
 
+-- a sum of numbers that are at most n
 total_below : {A : Type 0} (f : A → ℤ) (n : ℕ) (xs : List A) → ((x : A) → In x xs → f x ≤ℤ pos n) → total f xs ≤ℤ pos (n * length xs)
 total_below f n [] h = omega (arith, ints)
 total_below f n (x ∷ xs) h = let l = total_below f n xs (λ y p. h y (there p)) in let k = h x (here refl) in omega (arith, ints, l, k)
 
 module _ (d : Roots) (loaded : IsLoaded d) where
+  -- the square of a root's length is positive, since a root pairs with its own coroot to 2
   pub length_positive : (r : Root) → IsRoot d.base r → pos 0 <ℤ length2 d r
   length_positive r p =
       let f : Root → ℤ = λ s. pairing (vector d.base r) (covector d.base s) in
@@ -91,6 +95,7 @@ module _ (d : Roots) (loaded : IsLoaded d) where
           let two = ap (λ t. root_pairing d.base t s) e ∙ pairing-combination-times (negsuc 0) s.coeffs d.base.roots (covector d.base s) ∙ ap (λ t. negsuc 0 *ℤ t) (self d loaded s q) in
           subst (λ t. unsigned_abs t ≤ 3) (sym two) (omega arith)
 
+  -- at most 240 squares of at most 9
   pub norm_bound : (r : Root) → IsRoot d.base r → length2 d r ≤ℤ pos 2160
   norm_bound r p =
       let most = total_below (λ s. root_pairing d.base r s *ℤ root_pairing d.base r s) 9 (all_roots d) (λ s q. square_small (root_pairing d.base r s) (pairing_small r s p (all_only d loaded s q))) in
