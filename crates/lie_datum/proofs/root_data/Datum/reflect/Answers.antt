@@ -1,4 +1,4 @@
-use Rattle.std.proofs.Common.{◌≡◌, ◌<◌, ◌*◌, ap, subst, sym, ◌∙◌, length, arith}
+use Rattle.std.proofs.Common.{◌<◌, ◌*◌, ap, subst, sym, ◌∙◌, length, arith}
 use Rattle.lie_datum.specs.Numbers.{place}
 use Rattle.lie_datum.specs.RootDatum.{IsSimpleIndex}
 use Rattle.lie_datum.specs.RootList.{Roots, IsNumber}
