@@ -1,0 +1,12 @@
+-- Names of modules.
+-- Own.
+use Rattle.std.specs.Prelude.{ℕ, List, Option, bytes_eq}
+use Rattle.std.specs.Map.{lookup}
+
+-- names with their dimensions
+abbrev pub Listed : Type 0
+Listed = List (List ℕ × ℕ)
+
+-- the dimension of the module of this name
+abbrev pub dimension_of : Listed → List ℕ → Option ℕ
+dimension_of listed name = lookup (λ other. bytes_eq other name) listed
