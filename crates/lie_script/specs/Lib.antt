@@ -8,3 +8,4 @@ pub mod Kinds
 pub mod Reading
 pub mod Setting
 pub mod Texts
+pub mod Accepted

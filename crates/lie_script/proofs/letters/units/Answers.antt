@@ -1,9 +1,9 @@
-use Rattle.std.proofs.Common.{◌∙◌, sym}
+use Rattle.std.proofs.Common.{◌∙◌, sym, refl}
 use Rattle.std.proofs.lemmas.Result.{err_from_is_err_and}
 use Rattle.lie_field.specs.Quotient.{order}
 use Rattle.lie_script.specs.Letters.{unit, units}
 use Rattle.lie_script.proofs.Loops.{goes-on, stops, ends, begins-plain, none-plain}
-use Rattle.lie_script.proofs.Pieces.{units-ok}
+use Rattle.lie_script.proofs.Elements.{units-ok}
 use Rattle.lie_script.proofs.letters.units.Goals as goal
 
 pub returns-in_err-unit-clause-read : goal.returns-in_err-unit-clause-read
@@ -26,9 +26,9 @@ returns-clause-read c = ends _ _ _ (none-plain (unit (order c.args.field.now.giv
 pub returns-clause-count : goal.returns-clause-count
 unfolding units
 returns-clause-count c =
-    (units-ok c.args.field.now c.args.column c.args.numbers.now c.units.list.items (ends _ _ _ (none-plain (unit (order c.args.field.now.given) c.args.column) c.args.numbers.now c.units.a-index c.units-test.false) c.units.invariant)).0
+    (units-ok c.args.field.now (order c.args.field.now.given) c.args.column c.args.numbers.now c.units.list.items refl (ends _ _ _ (none-plain (unit (order c.args.field.now.given) c.args.column) c.args.numbers.now c.units.a-index c.units-test.false) c.units.invariant)).0
 
 pub returns-clause-units : goal.returns-clause-units
 unfolding units
 returns-clause-units c =
-    (units-ok c.args.field.now c.args.column c.args.numbers.now c.units.list.items (ends _ _ _ (none-plain (unit (order c.args.field.now.given) c.args.column) c.args.numbers.now c.units.a-index c.units-test.false) c.units.invariant)).1
+    (units-ok c.args.field.now (order c.args.field.now.given) c.args.column c.args.numbers.now c.units.list.items refl (ends _ _ _ (none-plain (unit (order c.args.field.now.given) c.args.column) c.args.numbers.now c.units.a-index c.units-test.false) c.units.invariant)).1
