@@ -4,17 +4,21 @@ use Rattle.std.proofs.Common.{List, [], ◌∷◌, ◌++◌, refl, subst, append
 use Rattle.lie_letters.specs.Chains.{StepBy, JoinedBy, forward, backward, same, next, IsChain}
 
 module _ {A : Type 0} {R : List A → List A → Type 0} where
+  -- an exchange taken back
   pub turned : {u v : List A} → StepBy R u v → StepBy R v u
   turned (forward p q e) = backward p q e
   turned (backward p q e) = forward p q e
 
+  -- one exchange is a chain
   pub one_step : {u v : List A} → StepBy R u v → JoinedBy R u v
   one_step s = next s same
 
+  -- a chain after a chain
   pub trans : {u v w : List A} → JoinedBy R u v → JoinedBy R v w → JoinedBy R u w
   trans same e = e
   trans (next s d) e = next s (trans d e)
 
+  -- a chain taken back
   pub flip : {u v : List A} → JoinedBy R u v → JoinedBy R v u
   flip same = same
   flip (next s d) = trans (flip d) (one_step (turned s))
@@ -26,20 +30,24 @@ module _ {A : Type 0} {R : List A → List A → Type 0} where
   step_behind a (backward {l = l} {r = r} p q e) =
       rw (← append_assoc a p (l ++ q), ← append_assoc a p (r ++ q)) (backward (a ++ p) q e)
 
+  -- an exchange before a word
   pub step_before : {u v : List A} (b : List A) → StepBy R u v → StepBy R (u ++ b) (v ++ b)
   step_before b (forward {l = l} {r = r} p q e) =
       rw (append_assoc p (l ++ q) b, append_assoc p (r ++ q) b, append_assoc l q b, append_assoc r q b) (forward p (q ++ b) e)
   step_before b (backward {l = l} {r = r} p q e) =
       rw (append_assoc p (l ++ q) b, append_assoc p (r ++ q) b, append_assoc l q b, append_assoc r q b) (backward p (q ++ b) e)
 
+  -- a chain behind a word
   pub behind : (a : List A) {u v : List A} → JoinedBy R u v → JoinedBy R (a ++ u) (a ++ v)
   behind a same = same
   behind a (next s d) = next (step_behind a s) (behind a d)
 
+  -- a chain before a word
   pub before : {u v : List A} (b : List A) → JoinedBy R u v → JoinedBy R (u ++ b) (v ++ b)
   before b same = same
   before b (next s d) = next (step_before b s) (before b d)
 
+  -- two words joined part by part
   pub both : {u u' v v' : List A} → JoinedBy R u u' → JoinedBy R v v' → JoinedBy R (u ++ v) (u' ++ v')
   both {u' = u'} {v = v} d e = trans (before v d) (behind u' e)
 

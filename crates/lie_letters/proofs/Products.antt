@@ -3,7 +3,8 @@ use Rattle.std.proofs.Common.{◌≡◌, ℕ, List, [], ◌∷◌, ◌++◌, map
 use Rattle.std.specs.Prelude.{◌↔◌}
 use Rattle.lie_letters.specs.declared.letter.Letter.{Letter as CodeLetter}
 use Rattle.lie_letters.specs.declared.letter.Letter.TheVariants.{H as CodeH}
-use Rattle.lie_letters.specs.Torus.{Torus, torus_one, torus_mul, torus_assoc, torus_comm, torus_mul_one}
+use Rattle.lie_letters.specs.Torus.{Torus, torus_one, torus_mul}
+use Rattle.lie_letters.proofs.TorusLaws.{torus_assoc, torus_comm, torus_mul_one}
 use Rattle.lie_letters.specs.Setting.{FrameData, setting, dim}
 use Rattle.lie_letters.specs.Letters.{Word, H}
 use Rattle.lie_letters.specs.Chains.{StepBy, forward, backward, same, next}
@@ -18,6 +19,7 @@ module _ (f : FrameData) where
   product [] = torus_one f.field (dim f)
   product (H t ∷ w) = torus_mul f.field (dim f) t (product w)
 
+  -- one on the left, as on the right
   one_mul : (t : Torus f.field (dim f)) → torus_mul f.field (dim f) (torus_one f.field (dim f)) t ≡ t
   one_mul t = torus_comm f.field (dim f) (torus_one f.field (dim f)) t ∙ torus_mul_one f.field (dim f) t
 
@@ -26,6 +28,7 @@ module _ (f : FrameData) where
   product-append (H t ∷ u) v =
       ap (torus_mul f.field (dim f) t) (product-append u v) ∙ sym (torus_assoc f.field (dim f) t (product u) (product v))
 
+  -- the two sides of a relation have one product
   relation_keeps : (l r : Word (setting f)) → Relation (setting f) l r → product l ≡ product r
   relation_keeps l r S0-torus = torus_mul_one f.field (dim f) (torus_one f.field (dim f))
   relation_keeps l r (S3 t u) = sym (torus_assoc f.field (dim f) t u (torus_one f.field (dim f)))
@@ -48,6 +51,7 @@ module _ (f : FrameData) where
   joined_to_product [] = flip (by_relation _ _ S0-torus)
   joined_to_product (H t ∷ w) = trans (behind (H t ∷ []) (joined_to_product w)) (by_relation _ _ (S3 t (product w)))
 
+  -- a word of the frame is joined to one torus letter
   pub joined_to_letter : (u : List CodeLetter) → IsWordOver f u → (t : List ℕ) × JoinedSpelled f (CodeH t ∷ []) u
   joined_to_letter u h =
       let w = word_of f u h in (
@@ -76,6 +80,7 @@ module _ (f : FrameData) where
       ∙ ap (λ (y : Torus f.field (dim f)). numbers f.field y.entries) (joined_keeps d.left d.right d.joined)
       ∙ letter_of d.right s d.right_spelled
 
+  -- torus letters decide which words are joined
   pub torus_letters_decide : (u v : List CodeLetter) (t s : List ℕ) → JoinedSpelled f (CodeH t ∷ []) u → JoinedSpelled f (CodeH s ∷ []) v
       → ((t ≡ s) ↔ JoinedSpelled f u v)
   torus_letters_decide u v t s d e =

@@ -9,6 +9,7 @@ use Rattle.lie_letters.specs.Spelled.{JoinedSpelled, IsLetterOver, IsWordOver, i
 use Rattle.lie_letters.proofs.TorusLemmas.{inverse_joined}
 use Rattle.lie_letters.proofs.SpelledLemmas.{JoinedSpelled-refl, JoinedSpelled-trans, JoinedSpelled-append, JoinedSpelled-over}
 
+-- the reversed word of a letter and a word ends in the inverted letter
 pub reversed-cons : (F : FiniteField) (a : CodeLetter) (w : List CodeLetter) → reversed F (a ∷ w) ≡ reversed F w ++ inverted F a ∷ []
 reversed-cons F a w =
     ap (map (inverted F)) (reverse-append (a ∷ []) w) ∙ map-append (inverted F) (reverse w) (a ∷ [])
@@ -17,6 +18,7 @@ reversed-cons F a w =
 letter_cancels : (f : FrameData) (a : CodeLetter) → IsLetterOver f a → JoinedSpelled f (a ∷ inverted f.field a ∷ []) []
 letter_cancels f (CodeH t) h = inverse_joined f t h.1 h.0
 
+-- a word and its reversed word
 pub word_cancels : (f : FrameData) (w : List CodeLetter) → IsWordOver f w → JoinedSpelled f (w ++ reversed f.field w) []
 word_cancels f [] h = JoinedSpelled-refl f [] tt
 word_cancels f (a ∷ w) h =

@@ -6,7 +6,8 @@ use Rattle.lie_field.specs.FiniteField.{FiniteField}
 use Rattle.lie_field.specs.Quotient.{order, mul, inv}
 use Rattle.lie_field.specs.Elements.{NonZero, unit_one, unit_mul, unit_inv}
 use Rattle.lie_letters.specs.declared.letter.Letter.TheVariants.{H as CodeH}
-use Rattle.lie_letters.specs.Torus.{Torus, each_mul, torus_one, torus_mul, torus_inv, torus_mul_inv}
+use Rattle.lie_letters.specs.Torus.{Torus, each_mul, torus_one, torus_mul, torus_inv}
+use Rattle.lie_letters.proofs.TorusLaws.{torus_mul_inv}
 use Rattle.lie_letters.specs.Setting.{FrameData, setting, dim}
 use Rattle.lie_letters.specs.Letters.{H}
 use Rattle.lie_letters.specs.Relations.{Joined, S0-torus, S3}
@@ -14,6 +15,7 @@ use Rattle.lie_letters.specs.Entries.{AreUnits, ones, times_each, inverses}
 use Rattle.lie_letters.specs.Spelled.{numbers, JoinedSpelled}
 use Rattle.lie_letters.proofs.ChainLemmas.{by_relation, trans}
 
+-- the units with given numbers
 units_of : (f : FiniteField) (t : List ℕ) → AreUnits f t → (ts : List (NonZero f)) × (numbers f ts ≡ t)
 units_of f [] h = ([], refl)
 units_of f (a ∷ t) h =
@@ -35,6 +37,7 @@ torus_of f t h e =
     let ts = units_of f.field t h in
     (record { entries = ts.0; long = yes_eqb (sym (length-numbers f.field ts.0) ∙ ap length ts.1 ∙ sym e) }, ts.1)
 
+-- the numbers of the vector of ones, of a product and of the inverses
 numbers-ones : (f : FiniteField) (d : ℕ) → numbers f (replicate d (unit_one f)) ≡ ones d
 unfolding unit_one
 numbers-ones f zero = refl
@@ -77,12 +80,13 @@ product_joined f t u p q e d =
       joined = by_relation _ _ (S3 x.0 y.0);
     }
 
--- a torus letter and the letter of its inverse
+-- the same, for a vector of the setting
 cancels : (f : FrameData) (x : Torus f.field (dim f)) → Joined (setting f) (H x ∷ H (torus_inv f.field (dim f) x) ∷ []) []
 cancels f x =
     trans (by_relation _ _ (S3 x (torus_inv f.field (dim f) x)))
     (rw (torus_mul_inv f.field (dim f) x) (by_relation _ _ S0-torus))
 
+-- a torus letter and the letter of its inverse are joined to the empty word
 pub inverse_joined : (f : FrameData) (t : List ℕ) → AreUnits f.field t → dim f ≡ length t → JoinedSpelled f (CodeH t ∷ CodeH (inverses f.field t) ∷ []) []
 unfolding torus_inv
 inverse_joined f t p e =

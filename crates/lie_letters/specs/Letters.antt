@@ -1,4 +1,5 @@
 -- Letters and words of a setting.
+-- Source: Steinberg's presentation, whose generators the letters name.
 use Rattle.std.specs.Prelude.{List}
 use Rattle.lie_letters.specs.Setting.{Setting}
 

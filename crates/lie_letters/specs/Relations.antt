@@ -1,5 +1,5 @@
 -- The relations between words, each as a pair of words, and joined words.
--- Source: Steinberg's presentation (Carter, Simple Groups of Lie Type, chapter 12). Own: the numbering S0 to S8.
+-- Source: Steinberg's presentation. Own: the list of relations and their names, S0 to S8.
 use Rattle.std.specs.Prelude.{[], ◌∷◌}
 use Rattle.lie_letters.specs.Chains.{JoinedBy}
 use Rattle.lie_letters.specs.Setting.{Setting}

@@ -1,4 +1,9 @@
 -- The letters of the program, by the numbers of their entries, as letters of a setting.
+-- Own: chains lead through words of the setting, so a word with an entry that is 0 or out of range is joined to none.
+--
+--   u and v are joined         JoinedSpelled f u v
+--   u is a word of the frame   IsWordOver f u
+--   the reversed word of u     reversed f.field u
 use Rattle.std.specs.Prelude.{◌≡◌, ℕ, List, map, reverse, length}
 use Rattle.std.specs.List.{AllByRecursion}
 use Rattle.lie_field.specs.FiniteField.{FiniteField}

@@ -1,5 +1,7 @@
 //! Laws of joined words.
-ghost use Rattle.std.specs.Prelude.{◌≡◌, ◌↔◌, ℕ, List, [], ◌∷◌, ◌++◌};
+ghost use Rattle.std.specs.Prelude.{◌≡◌, ◌↔◌, ℕ, List, [], ◌∷◌, ◌++◌, map};
+ghost use Rattle.lie_field.specs.FiniteField.{FiniteField};
+ghost use Rattle.lie_letters.specs.Entries.{IsTorusGroup};
 ghost use Rattle.lie_letters.specs.Chains.{IsChain};
 ghost use Rattle.lie_letters.specs.Setting.{FrameData, setting};
 ghost use Rattle.lie_letters.specs.Letters.{Word};
@@ -7,6 +9,12 @@ ghost use Rattle.lie_letters.specs.Relations.{Relation, Joined};
 ghost use Rattle.lie_letters.specs.Spelled.{JoinedSpelled, IsWordOver, reversed};
 
 use crate::letter::Letter;
+
+/// The vectors of units of one length are a commutative group under `Torus::mul`, with `Torus::one` and
+/// `Torus::inv`.
+pub fn torus_is_a_group()
+    ensures { (f : FiniteField) → IsTorusGroup f }
+{}
 
 /// Words are joined exactly if there is a list of words, each one exchange from the word before it,
 /// that leads from one to the other.
@@ -39,9 +47,9 @@ pub fn reversed_cancels()
     ensures { (f : FrameData) (w : List Letter) → IsWordOver f w → JoinedSpelled f (w ++ reversed f.field w) [] }
 {}
 
-/// Each word of torus letters is joined to one torus letter.
-pub fn every_word_is_a_torus_letter()
-    ensures { (f : FrameData) (u : List Letter) → IsWordOver f u → (t : List ℕ) × JoinedSpelled f (Letter.H t ∷ []) u }
+/// A word of torus letters is joined to one torus letter.
+pub fn torus_words_are_letters()
+    ensures { (f : FrameData) (ts : List (List ℕ)) → IsWordOver f (map (λ t. Letter.H t) ts) → (t : List ℕ) × JoinedSpelled f (Letter.H t ∷ []) (map (λ t. Letter.H t) ts) }
 {}
 
 /// Torus letters decide which words are joined: two words that are joined to a torus letter each are

@@ -8,7 +8,7 @@ use lie_field::{Fe, Field};
 use std::marker::Model;
 
 /// A vector of one to eight elements that are not 0, seen as the list of their numbers.
-#[derive(Drop)]
+#[derive(Debug, Drop)]
 pub struct Torus {
     entries: [Fe; 8],
     d: usize,

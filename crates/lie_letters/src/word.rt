@@ -7,7 +7,7 @@ use std::alloc::{AllocError, Global};
 use std::marker::Model;
 
 /// A word, seen as the list of its letters.
-#[derive(Drop)]
+#[derive(Debug, Drop)]
 pub struct Word {
     letters: Vec<Letter>,
 }
