@@ -1,0 +1,44 @@
+-- The order of the roots, and of vectors.
+use Rattle.std.proofs.Common.{◌≡◌, ◌≢◌, ℤ, ◌<ℤ◌, List, [], ◌∷◌, refl, sym, ap, ◌∙◌}
+use Rattle.std.proofs.lemmas.Cmp.{int_cmp_total, int_ranked, on_total, then_total, back_total, lists_total, tied_itself}
+use Rattle.std.specs.Cmp.{IsTotalOrder}
+use Rattle.std.specs.Ordering.{int_cmp, ordering_then, ordering_reverse, MatchOrdering}
+use Rattle.std.specs.Cmp.Lexicographic.{slice_cmp}
+use Rattle.std.specs.declared.cmp.Ordering.{Ordering}
+use Rattle.std.specs.declared.cmp.Ordering.TheVariants.{Less, Equal, Greater}
+use Rattle.lie_datum.specs.Vectors.{Vector}
+use Rattle.lie_datum.specs.RootDatum.{Root}
+use Rattle.lie_datum.specs.RootList.{height, root_cmp}
+
+pub slices_total : IsTotalOrder (slice_cmp int_cmp)
+slices_total = lists_total int_cmp_total
+
+pub root_total : IsTotalOrder root_cmp
+root_total = then_total (on_total height int_cmp_total) (then_total (on_total (λ r. r.coeffs) (back_total slices_total)) (on_total (λ r. r.co_coeffs) (back_total slices_total)))
+
+pub same_order : (r : Root) → root_cmp r r ≡ Equal
+same_order r = tied_itself root_total r
+
+pub equal_slices : (v w : Vector) → slice_cmp int_cmp v w ≡ Equal → v ≡ w
+equal_slices [] [] e = refl
+equal_slices [] (b ∷ w) e = cc
+equal_slices (a ∷ v) [] e = cc
+equal_slices (a ∷ v) (b ∷ w) e = by (int_cmp a b) e (int_ranked a b (int_cmp a b) refl) (equal_slices v w)
+  where
+    by : (o : Ordering) → ordering_then o (slice_cmp int_cmp v w) ≡ Equal → MatchOrdering o (a <ℤ b) (a ≡ b) (b <ℤ a) → (slice_cmp int_cmp v w ≡ Equal → v ≡ w) → a ∷ v ≡ b ∷ w
+    by Less e m f = cc
+    by Equal e m f = let g = f e in cc
+    by Greater e m f = cc
+
+-- neither v nor what is not above it is above w, if v isn't
+pub not_above : (u v w : Vector) → slice_cmp int_cmp u v ≢ Greater → slice_cmp int_cmp v w ≢ Greater → slice_cmp int_cmp u w ≢ Greater
+not_above u v w p q e = by (slice_cmp int_cmp u v) refl (slice_cmp int_cmp v w) refl p q
+  where
+    by : (o : Ordering) → slice_cmp int_cmp u v ≡ o → (k : Ordering) → slice_cmp int_cmp v w ≡ k → slice_cmp int_cmp u v ≢ Greater → slice_cmp int_cmp v w ≢ Greater → ⊥
+    by Greater f k g p q = absurd (p f)
+    by Less f Greater g p q = absurd (q g)
+    by Equal f Greater g p q = absurd (q g)
+    by Less f Less g p q = let h = slices_total.trans u v w f g in cc
+    by Less f Equal g p q = let h = equal_slices v w g in let k = ap (slice_cmp int_cmp u) h in cc
+    by Equal f Less g p q = let h = equal_slices u v f in let k = ap (λ t. slice_cmp int_cmp t w) h in cc
+    by Equal f Equal g p q = let h = equal_slices u v f in let k = ap (λ t. slice_cmp int_cmp t w) h in cc

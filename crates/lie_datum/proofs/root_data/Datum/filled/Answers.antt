@@ -1,0 +1,62 @@
+use Rattle.std.proofs.Common.{◌≡◌, ◌*◌, ℕ, subst, sym, ap, ◌∙◌, List, take, length, arith, refl, map, length-take}
+use Rattle.std.specs.List.{All, range_with_len}
+use Rattle.lie_datum.specs.RootDatum.{Root, IsRoot, IsSmall, covector, vector, reflected, rank}
+use Rattle.lie_datum.specs.RootList.{Roots, all_roots}
+use Rattle.lie_datum.proofs.TablesHold.{names_root, some_name, all_small, index_of_roots, entries_view, tables_hold}
+use Rattle.lie_datum.specs.Vectors.{Vector, plus}
+use Rattle.lie_datum.specs.Entries.{HasEntry}
+use Rattle.lie_datum.specs.Grids.{grid, IsIndexed}
+use Rattle.std.specs.Ordering.{int_eq}
+use Rattle.indexmap.specs.IndexMap.{get}
+use lib.Pointwise.{pointwise}
+use Rattle.lie_datum.proofs.root_data.Datum.filled.Goals as goal
+
+pub entries-requires-clause-roots : goal.entries-requires-clause-roots
+entries-requires-clause-roots c =
+    let d : Roots = record { base = c.args.base; positive = take c.args.positive c.args.all.now } in
+    subst (All (λ r. IsRoot c.args.base r × IsSmall r)) (sym c.requires.all) (all_small d c.requires.loaded)
+
+pub sums-requires : goal.sums-requires
+sums-requires c =
+    let d : Roots = record { base = c.args.base; positive = take c.args.positive c.args.all.now } in
+    let h = subst (All (λ r. IsRoot c.args.base r × IsSmall r)) (sym c.requires.all) (all_small d c.requires.loaded) in
+    λ k z l. (h k z l).1
+
+pub images-requires-clause-roots : goal.images-requires-clause-roots
+images-requires-clause-roots c =
+    let d : Roots = record { base = c.args.base; positive = take c.args.positive c.args.all.now } in
+    subst (All (λ r. IsRoot c.args.base r × IsSmall r)) (sym c.requires.all) (all_small d c.requires.loaded)
+
+pub images-requires-clause-named : goal.images-requires-clause-named
+images-requires-clause-named c r p =
+    let d : Roots = record { base = c.args.base; positive = take c.args.positive c.args.all.now } in
+    let names = get (pointwise int_eq) c.in_ok-by_coeffs.by_coeffs in
+    let twice = c.requires.count in
+    let count : c.args.positive ≡ length d.positive = sym (length-take c.args.positive c.args.all.now ∙ omega arith) in
+    some_name d (λ s. s.coeffs) r (names r.coeffs) p (names_root d c.requires.loaded (λ s. s.coeffs) r.coeffs (names r.coeffs)
+    (index_of_roots d c.args.positive (λ s. s.coeffs) c.args.all.now c.deref.result.now names count c.requires.all (c.deref.ensures.value ∙ c.in_ok-coefficients.ensures) c.in_ok-by_coeffs.ensures r.coeffs))
+
+pub invariant_of-result-2 : goal.invariant_of-result-2
+invariant_of-result-2 c =
+    let d : Roots = record { base = c.args.base; positive = take c.args.positive c.args.all.now } in
+    let names = get (pointwise int_eq) c.in_ok-by_coeffs.by_coeffs in
+    let all = c.requires.all in
+    let twice = c.requires.count in
+    let count : c.args.positive ≡ length d.positive = sym (length-take c.args.positive c.args.all.now ∙ omega arith) in
+    let few = c.requires.bound in
+    let by_coeffs = index_of_roots d c.args.positive (λ s. s.coeffs) c.args.all.now c.deref.result.now names count all (c.deref.ensures.value ∙ c.in_ok-coefficients.ensures) c.in_ok-by_coeffs.ensures in
+    tables_hold d c.requires.loaded _ refl count (c.in_ok-entries.ensures.roots ∙ all)
+    (omega (arith, few, count))
+    (subst (λ (ts : List Root). All (HasEntry d.base (map (covector d.base) ts)) c.in_ok-entries.field-0.items) all c.in_ok-entries.ensures.data)
+    names by_coeffs
+    (c.in_ok-sums.ensures ∙ ap (λ (ts : List Root). grid (λ (r s : Root). names (plus r.coeffs s.coeffs)) ts ts) all)
+    (c.in_ok-images.ensures ∙ ap (λ (ts : List Root). grid (λ (i : ℕ) (r : Root). names (reflected d.base i r).coeffs) (range_with_len 1 (rank d.base)) ts) all)
+    (subst (λ (m : _). (v : Vector) → IsIndexed (length d.positive) (map (λ (s : Root). s.coeffs) (all_roots d)) v (get (pointwise int_eq) m v)) (sym c.by_coeffs.view_is) by_coeffs)
+    (index_of_roots d c.args.positive (vector d.base) c.args.all.now c.args.vectors.now (get (pointwise int_eq) c.in_ok-numbers.field-0) count all c.requires.vectors c.in_ok-numbers.ensures)
+
+pub returns : goal.returns
+returns c =
+    let d : Roots = record { base = c.args.base; positive = take c.args.positive c.args.all.now } in
+    let twice = c.requires.count in
+    let count : c.args.positive ≡ length d.positive = sym (length-take c.args.positive c.args.all.now ∙ omega arith) in
+    entries_view d c.args.positive c.in_ok-entries.field-0.items count (c.in_ok-entries.ensures.roots ∙ c.requires.all)
