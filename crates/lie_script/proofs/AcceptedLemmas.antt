@@ -72,7 +72,7 @@ said-fits awaited sizes listed bytes [] = tt
 said-fits awaited sizes listed bytes (first ∷ fields) =
     if-all (Fits sizes) (begins_with 35 first.bytes) _ _ tt
     (bind-all (Fits sizes) (none_at (foreign_from 1 bytes) _) _ (λ plain is. bind-all (Fits sizes) (found (keyword_of first.bytes) _) _ (λ word is.
-        unless-all (Fits sizes) (not (is_command word) || sizes.loaded) _ _ (λ loaded. unless-all (Fits sizes) (begins word awaited) _ _ (λ due. own_line-fits sizes listed word fields)))))
+    unless-all (Fits sizes) (not (is_command word) || sizes.loaded) _ _ (λ loaded. unless-all (Fits sizes) (begins word awaited) _ _ (λ due. own_line-fits sizes listed word fields)))))
 
 -- every line that passes its checks fits
 pub accepted-fits : AcceptedLinesFit

@@ -35,9 +35,9 @@ entries-over : (f : FrameData) (sizes : Sizes) (column : ℕ) (numbers : List �
     → IfOk (unless (nat_eq (length numbers) sizes.d) e >>= λ sized. units sizes.q column numbers >>= λ t. Ok (H t)) (IsLetterOver f)
 entries-over f sizes column numbers e q_is d_is =
     unless-all (IsLetterOver f) (nat_eq (length numbers) sizes.d) e (units sizes.q column numbers >>= λ t. Ok (H t)) (λ sized.
-        bind-all (IsLetterOver f) (units sizes.q column numbers) (λ t. Ok (H t)) (λ t read.
-            let found = units-ok f.field sizes.q column numbers t q_is read in
-            (grind (arith, sized, found.0, d_is), found.1)))
+    bind-all (IsLetterOver f) (units sizes.q column numbers) (λ t. Ok (H t)) (λ t read.
+    let found = units-ok f.field sizes.q column numbers t q_is read in
+    (grind (arith, sized, found.0, d_is), found.1)))
 
 -- a torus letter has an entry for each coordinate, and none is 0
 torus_letter-over : (f : FrameData) (sizes : Sizes) (column : ℕ) (bytes : List ℕ) → HasField sizes f.field → dim f ≡ sizes.d → IfOk (torus_letter sizes column bytes) (IsLetterOver f)

@@ -33,3 +33,6 @@ pub use names::Names;
 pub use reading::read_line;
 pub use sizes::{Sizes, Wants};
 pub use texts::{put_number, refusal};
+
+#[cfg(test)]
+mod tests;
