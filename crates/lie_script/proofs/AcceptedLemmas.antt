@@ -1,14 +1,14 @@
 -- What holds of the lines that pass their checks.
-use Rattle.std.proofs.Common.{◌≡◌, ℕ, ◌+◌, Bool, true, List, [], ◌∷◌, length, take, ℤ, pos, nat_abs, refl, ◌∙◌, subst, arith, Result, Ok, Err}
+use Rattle.std.proofs.Common.{◌≡◌, ℕ, ◌+◌, true, List, [], ◌∷◌, length, ℤ, pos, nat_abs, ◌∙◌, arith, Ok}
 use Rattle.std.specs.Prelude.{◌&&◌, ◌||◌, not, nat_eq, nat_le, IfOk}
-use Rattle.std.specs.List.{All, AllByRecursion}
+use Rattle.std.specs.List.{AllByRecursion}
 use Rattle.std.proofs.lemmas.List.{length-take}
 use Rattle.std.proofs.lemmas.List.Elements.{All-take, All-from_recursion}
 use Rattle.std.proofs.lemmas.Bool.{eqb-true}
 use Rattle.std.proofs.lemmas.Result.{IfOk-at_ok}
 use Rattle.lie_letters.specs.Spelled.{IsWordOver}
 use Rattle.lie_script.specs.Accepted.{Fits, AcceptedLinesFit}
-use Rattle.lie_script.specs.Checks.{◌>>=◌, unless, found, none_at, each}
+use Rattle.lie_script.specs.Checks.{found, none_at}
 use Rattle.lie_script.specs.Fields.{Span, fields_of, foreign_from, begins_with}
 use Rattle.lie_script.specs.Kinds.{field_of, field_line, datum_line, vector, root_line, coroot_line, bare_line, word_line}
 use Rattle.lie_script.specs.Names.{Listed}
@@ -18,7 +18,6 @@ use Rattle.lie_script.specs.Reading.{keyword_of, is_command, begins, own_line, s
 use Rattle.lie_script.specs.declared.allowed.Allowed.{Allowed}
 use Rattle.lie_script.specs.declared.keyword.Keyword.{Keyword}
 use Rattle.lie_script.specs.declared.keyword.Keyword.TheVariants as keyword
-use Rattle.lie_script.specs.declared.line.Line.{Line}
 use Rattle.lie_script.specs.declared.sizes.Sizes.{Sizes}
 use Rattle.lie_script.specs.declared.sizes.Wants.{Wants}
 use Rattle.lie_script.proofs.Steps.{bind-all, unless-all, if-all, each-ok, IfOk-from}

@@ -1,5 +1,5 @@
 -- Elements and letters that were read are those of the frame.
-use Rattle.std.proofs.Common.{◌≡◌, ℕ, Bool, true, false, List, [], ◌∷◌, length, sym, ◌∙◌, subst, arith, Result, Ok, Err}
+use Rattle.std.proofs.Common.{◌≡◌, ℕ, List, [], ◌∷◌, length, subst, arith, Ok}
 use Rattle.std.specs.Prelude.{not, nat_eq, nat_lt, filter, IfOk}
 use Rattle.lie_field.specs.FiniteField.{FiniteField}
 use Rattle.lie_field.specs.Quotient.{order}
@@ -7,7 +7,7 @@ use Rattle.lie_letters.specs.Entries.{IsUnit, AreUnits}
 use Rattle.lie_letters.specs.Setting.{FrameData, dim}
 use Rattle.lie_letters.specs.Spelled.{IsLetterOver, IsWordOver}
 use Rattle.lie_letters.specs.declared.letter.Letter.TheVariants.{H}
-use Rattle.lie_script.specs.Checks.{◌>>=◌, unless, found, each}
+use Rattle.lie_script.specs.Checks.{◌>>=◌, unless, found}
 use Rattle.lie_script.specs.Fields.{Span, behind_first, before_last}
 use Rattle.lie_script.specs.Letters.{unit, units, spelled_list, torus_letter, letter_from, letter, letters, few_letters, word, is_letter}
 use Rattle.lie_script.specs.Setting.{HasField}

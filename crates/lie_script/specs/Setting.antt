@@ -1,6 +1,6 @@
 -- The field and the datum that sizes belong to, and the fault as callers see it.
 -- Own.
-use Rattle.std.specs.Prelude.{◌≡◌, ℕ, ◌||◌, Bool, true, false, length, Option, IfSome, IsSome, Result, Ok, Err}
+use Rattle.std.specs.Prelude.{◌≡◌, ◌||◌, Bool, true, false, length, Option, IfSome, IsSome, Result, Ok, Err}
 use Rattle.lie_field.specs.FiniteField.{FiniteField}
 use Rattle.lie_field.specs.Quotient.{order}
 use Rattle.lie_datum.specs.RootDatum.{rank}

@@ -29,7 +29,7 @@ pub use kept::{Numbers, Text};
 pub use keyword::Keyword;
 pub use laws::accepted_lines_fit;
 pub use line::Line;
-pub use names::Names;
+pub use names::{Names, NoNames};
 pub use reading::read_line;
 pub use sizes::{Sizes, Wants};
 pub use texts::{put_number, refusal};

@@ -18,3 +18,23 @@ pub trait Names {
     fn count(&self) -> usize
         ensures { result ≡ length (listed self.now) };
 }
+
+/// No names.
+#[derive(Clone, Copy, Debug, Drop)]
+pub struct NoNames;
+
+impl Names for NoNames {
+    ghost use Rattle.lie_script.specs.Names.{none_listed, none-repeats};
+
+    ghost listed = { λ _. none_listed };
+
+    ghost distinct = { λ _. none-repeats };
+
+    fn dim_of(&self, _name: &[u8]) -> Option<usize> {
+        None
+    }
+
+    fn count(&self) -> usize {
+        0
+    }
+}

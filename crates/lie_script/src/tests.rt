@@ -1,30 +1,10 @@
 //! Lines of the language, each with its refusal or its values.
-ghost use Rattle.std.specs.Prelude.{[]};
-
-use crate::{Line, LineFault, Names, Sizes, Wants, put_number, read_line, refusal};
+use crate::{Line, LineFault, Names, NoNames, Sizes, Wants, put_number, read_line, refusal};
 use lie_datum::Datum;
 use lie_field::Field;
 use std::alloc::Global;
 use std::process::Abort;
 use std::test::Fail;
-
-// No modules.
-#[derive(Drop)]
-struct NoNames {}
-
-impl Names for NoNames {
-    ghost listed = { λ _. [] };
-
-    ghost distinct = { λ _. tt };
-
-    fn dim_of(&self, _name: &[u8]) -> Option<usize> {
-        None
-    }
-
-    fn count(&self) -> usize {
-        0
-    }
-}
 
 // The field of five elements.
 fn five(rt: &impl Abort, alloc: Global) -> Field {
@@ -52,13 +32,12 @@ fn read(rt: &impl Abort, alloc: Global, wants: Wants, line: &[u8]) -> Result<Lin
         dim: 0,
         loaded: wants == Wants::Command,
     };
-    let names = NoNames {};
     read_line(
         alloc,
         line,
         wants,
         &sizes,
-        &names,
+        &NoNames,
         Some(&field),
         Some(&datum),
     )
@@ -76,12 +55,10 @@ fn refused(rt: &impl Abort, alloc: Global, wants: Wants, line: &[u8]) -> Vec<u8>
     }
 }
 
-// A line of so many bytes that begins with these, and goes on with the last of them.
+// A line of so many bytes that begins with these, and goes on with the pad.
 fn padded(rt: &impl Abort, alloc: Global, front: &[u8], pad: u8, count: usize) -> Vec<u8> {
     let mut line = Vec::from_slice(alloc, front).expect(rt, "memory");
-    while line.len() < count {
-        line.push(pad).expect(rt, "memory");
-    }
+    line.resize(count, pad).expect(rt, "memory");
     line
 }
 
@@ -206,73 +183,37 @@ fn long_lines(rt: HostRuntime) {
     }
 }
 
-// Whether a line says this.
-fn says(
-    rt: &impl Abort,
-    alloc: Global,
-    wants: Wants,
-    line: &[u8],
-    is: impl FnOnce(&Line) -> bool,
-) -> bool {
-    match read(rt, alloc, wants, line) {
-        Ok(said) => is(&said),
-        Err(_) => false,
+#[test]
+fn values_of_lines(rt: HostRuntime) {
+    match read(&rt, rt.alloc(), Wants::Field, b"field 3 2 2 0001 3") {
+        Ok(Line::Field { p, k, coeffs, g }) => {
+            assert_eq!(rt; (p, k, g), (3, 2, 3));
+            assert_eq!(rt; coeffs.list(), [2, 1].as_slice());
+        }
+        _ => panic!(rt; "no field"),
+    }
+    match read(&rt, rt.alloc(), Wants::Datum, b"datum 8 7") {
+        Ok(Line::Datum { d, l }) => assert_eq!(rt; (d, l), (8, 7)),
+        _ => panic!(rt; "no datum"),
+    }
+    match read(&rt, rt.alloc(), Wants::Root, b"root -0012") {
+        Ok(Line::Root(v)) => assert_eq!(rt; v.list(), [-12].as_slice()),
+        _ => panic!(rt; "no root"),
+    }
+    match read(&rt, rt.alloc(), Wants::Command, b"form h(2) 1 h(3)") {
+        Ok(Line::Form(w)) => assert_eq!(rt; w.letters().len(), 2),
+        _ => panic!(rt; "no form"),
     }
 }
 
+// The names of modules that are there.
+fn named<N: Names>(names: &N, name: &[u8]) -> (Option<usize>, usize) {
+    (names.dim_of(name), names.count())
+}
+
 #[test]
-fn values_of_lines(rt: HostRuntime) {
-    assert!(rt;
-        says(
-            &rt,
-            rt.alloc(),
-            Wants::Field,
-            b"field 3 2 2 0002 3",
-            |line| match line {
-                Line::Field { p, k, coeffs, g } => *p == 3
-                    && *k == 2
-                    && coeffs.list() == [2, 2].as_slice()
-                    && *g == 3,
-                _ => false,
-            }
-        )
-    );
-    assert!(rt;
-        says(
-            &rt,
-            rt.alloc(),
-            Wants::Datum,
-            b"datum 8 7",
-            |line| match line {
-                Line::Datum { d, l } => *d == 8 && *l == 7,
-                _ => false,
-            }
-        )
-    );
-    assert!(rt;
-        says(
-            &rt,
-            rt.alloc(),
-            Wants::Root,
-            b"root -0012",
-            |line| match line {
-                Line::Root(v) => v.list() == [-12].as_slice(),
-                _ => false,
-            }
-        )
-    );
-    assert!(rt;
-        says(
-            &rt,
-            rt.alloc(),
-            Wants::Command,
-            b"form h(2) 1 h(3)",
-            |line| match line {
-                Line::Form(w) => w.letters().len() == 2,
-                _ => false,
-            }
-        )
-    );
+fn no_modules_are_named(rt: HostRuntime) {
+    assert_eq!(rt; named(&NoNames, b"adjoint"), (None, 0));
 }
 
 #[test]
