@@ -10,7 +10,7 @@ use Rattle.lie_datum.specs.Vectors.{Vector, times, minus}
 use Rattle.lie_datum.specs.RootDatum.{Base, Root, opposite, root_pairing, IsRoot, IsPositive, IsNegative, IsUnmixed, IsCartan, IsFinite}
 use Rattle.lie_datum.specs.RootList.{Roots, root_cmp, IsPositiveList, all_roots}
 use Rattle.lie_datum.proofs.Entries.{entry, entry-times, entry_past, within_or_past, length-times, same_entries}
-use Rattle.lie_datum.proofs.Members.{In, here, there, IsSimpleList, in_map, from_map, map_simple}
+use Rattle.lie_base.proofs.Members.{In, here, there, IsSimpleList, in_map, from_map, map_simple}
 use Rattle.lie_datum.proofs.ClosureLemmas.{in_from_contains, contains_from_in, pigeonhole}
 use Rattle.lie_datum.proofs.Roots.{same_root, root_self}
 use Rattle.lie_datum.proofs.RootOrder.{same_order}

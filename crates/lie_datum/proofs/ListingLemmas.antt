@@ -18,7 +18,7 @@ use Rattle.lie_datum.specs.RootList.{root_cmp, height, IsPositiveList}
 use Rattle.lie_datum.specs.Closure.{IsDistinctList, ListsRoots, IsClosing}
 use Rattle.lie_datum.specs.Load.{IsGreatestMixed}
 use Rattle.lie_datum.specs.Listing.{IsPicked, IsRanked, ranked_root, IsGreatestMixedIn, IsGreatestMixedOf}
-use Rattle.lie_datum.proofs.Members.{In}
+use Rattle.lie_base.proofs.Members.{In}
 use Rattle.lie_datum.proofs.Roots.{same_root}
 use Rattle.lie_datum.proofs.ClosureLemmas.{contains_from_in, in_from_contains, in_at, in_last, roots_push, distinct_push, Contains-append, split_last}
 use Rattle.lie_datum.proofs.RootOrder.{root_total, slices_total, equal_slices, not_above}
@@ -29,7 +29,7 @@ pub distinct_front : (xs : List Root) (x : Root) → IsDistinctList (xs ++ x ∷
 distinct_front xs x h = (
   (λ j k d l m e. h j k d l (omega (arith, m, length-append xs (x ∷ []))) (get_or_append_left xs (x ∷ []) d j (omega (arith, l, m)) ∙ e ∙ sym (get_or_append_left xs (x ∷ []) d k m))),
   λ c. (let low = c.1 in
-  h c.0 (length xs + 0) x (omega (arith, low)) (omega (arith, length-append xs (x ∷ []))) (get_or_append_left xs (x ∷ []) x c.0 low ∙ c.2 ∙ sym (get_or-append-add xs (x ∷ []) 0 x))),
+      h c.0 (length xs + 0) x (omega (arith, low)) (omega (arith, length-append xs (x ∷ []))) (get_or_append_left xs (x ∷ []) x c.0 low ∙ c.2 ∙ sym (get_or-append-add xs (x ∷ []) 0 x))),
 )
 
 -- ---- picking

@@ -23,7 +23,7 @@ use Rattle.lie_datum.specs.Grids.{grid, IsSamePair, IsIndexed}
 use Rattle.lie_datum.specs.Table.{AreSums, AreImages, loaded_roots, IsTableOf}
 use Rattle.lie_datum.specs.Load.{IsFault, IsFirstPair, NoneBefore, IsRepeated}
 use Rattle.lie_datum.specs.Listing.{IsListed}
-use Rattle.lie_datum.proofs.Members.{In, total-map}
+use Rattle.lie_base.proofs.Members.{In, total-map}
 use Rattle.lie_datum.proofs.Entries.{within_or_past}
 use Rattle.lie_datum.proofs.ClosureLemmas.{in_from_contains, contains_from_in}
 use Rattle.lie_datum.proofs.ListedLemmas.{order_in, order_only, listed_only}
@@ -40,15 +40,20 @@ no_root = record { coeffs = []; co_coeffs = [] }
 pub names_root : (d : Roots) (loaded : IsLoaded d) (f : Root → Vector) (v : Vector) (o : Option ℤ) → IsIndexed (length d.positive) (map f (all_roots d)) v o → NamesRoot d (λ r. f r ≡ v) o
 names_root d loaded f v None h = λ r p e.
     let c = contains_from_in (all_roots d) r (all_in d loaded r p) in
-    h (c.0, (let l = c.1 in omega (arith, l, length-map (all_roots d) f)),
-    get_or_default (map f (all_roots d)) c.0 v (f r) (let l = c.1 in omega (arith, l, length-map (all_roots d) f)) ∙ get_or-map f (all_roots d) c.0 r ∙ ap f c.2 ∙ e)
+    h (
+      c.0,
+      (let l = c.1 in omega (arith, l, length-map (all_roots d) f)),
+      get_or_default (map f (all_roots d)) c.0 v (f r) (let l = c.1 in omega (arith, l, length-map (all_roots d) f)) ∙ get_or-map f (all_roots d) c.0 r ∙ ap f c.2 ∙ e,
+    )
 names_root d loaded f v (Some n) h =
     let k = h.0 in
     let low : k < length (all_roots d) = let l = h.1 in omega (arith, l, length-map (all_roots d) f) in
     let at = numbered_at d k (omega (arith, low, length-all d)) in
-    let named : IsNumber d (number_at (length d.positive) k) × (f (root_of d (number_at (length d.positive) k)) ≡ v) =
-    (at.number, ap f (sym (at.root no_root)) ∙ sym (get_or-map f (all_roots d) k no_root)
-    ∙ get_or_default (map f (all_roots d)) k (f no_root) v h.1 ∙ h.3) in
+    let named : IsNumber d (number_at (length d.positive) k) × (f (root_of d (number_at (length d.positive) k)) ≡ v) = (
+      at.number,
+      ap f (sym (at.root no_root)) ∙ sym (get_or-map f (all_roots d) k no_root)
+          ∙ get_or_default (map f (all_roots d)) k (f no_root) v h.1 ∙ h.3,
+    ) in
     subst (λ t. IsNumber d t × (f (root_of d t) ≡ v)) (sym h.2) named
 
 -- every root has a name
@@ -159,9 +164,18 @@ module _ (b : Base) (c : IsCartan b) (rs : List Root) (listed : IsListed b rs) w
         λ k l q r. h.1 k l q (same_pair k l r),
       ) in
       let j = numbered_at d x (omega (arith, lt, inside, long, twice)) in
-      let k = numbered_at d y (omega (arith, inside, long, twice)) in
-      (c, listed.finite, listed.unmixed, (rs, listed.list, j.number, k.number,
-      subst (λ t. IsFirstPair (IsRepeated d) t (place (length rs) (number_at (length rs) y))) (sym j.place) (subst (λ t. IsFirstPair (IsRepeated d) x t) (sym k.place) first)))
+      let k = numbered_at d y (omega (arith, inside, long, twice)) in (
+        c,
+        listed.finite,
+        listed.unmixed,
+        (
+          rs,
+          listed.list,
+          j.number,
+          k.number,
+          subst (λ t. IsFirstPair (IsRepeated d) t (place (length rs) (number_at (length rs) y))) (sym j.place) (subst (λ t. IsFirstPair (IsRepeated d) x t) (sym k.place) first),
+        ),
+      )
 
 -- ---- all tables of a datum
 abbrev with_entries : Base → ℕ → List Entry → Roots

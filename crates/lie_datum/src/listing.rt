@@ -107,11 +107,7 @@ fn without_heights(alloc: Global, list: &[Ranked]) -> Result<Vec<Root>, AllocErr
 }
 
 /// The positive roots in order.
-fn positive_roots(
-    alloc: Global,
-    base: &Base,
-    roots: &[Root],
-) -> Result<Vec<Root>, AllocError>
+fn positive_roots(alloc: Global, base: &Base, roots: &[Root]) -> Result<Vec<Root>, AllocError>
     requires cartan { IsCartan base.now }
     requires roots { ListsRoots base.now roots.now }
     requires unmixed { IsUnmixed base.now }

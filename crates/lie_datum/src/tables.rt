@@ -32,11 +32,7 @@ pub(crate) fn coefficients(alloc: Global, roots: &[Root]) -> Result<Vec<Vector>,
 }
 
 /// The vectors of the roots in X.
-pub(crate) fn vectors(
-    alloc: Global,
-    base: &Base,
-    roots: &[Root],
-) -> Result<Vec<Vector>, AllocError>
+pub(crate) fn vectors(alloc: Global, base: &Base, roots: &[Root]) -> Result<Vec<Vector>, AllocError>
     requires { All (λ r. IsRoot base.now r × IsSmall r) roots.now }
     ensures { IfOk result (λ list. list.items ≡ map (vector base.now) roots.now) }
 {

@@ -10,10 +10,10 @@ use mathlib.Core.HLevel.{Σ_prop_path}
 use Rattle.lie_base.specs.Below.{Below, same_below, at_number, is_below}
 use Rattle.lie_field.specs.Quotient.{FieldData, order, add, mul, neg, inv, power, power_int, of_int, IsRingData, IsFieldData}
 use Rattle.lie_field.specs.FiniteField.{FiniteField}
-use Rattle.lie_field.specs.FieldTest.{is_lawful}
+use Rattle.lie_field.specs.Algebra.FieldTest.{is_lawful}
 use Rattle.lie_field.specs.FieldRing.{field_is_ring}
-use Rattle.lie_field.specs.Laws
-use Rattle.lie_field.specs.Powers
+use Rattle.lie_field.specs.Algebra.Laws
+use Rattle.lie_field.specs.Algebra.Powers
 
 -- an element
 abbrev pub Elem : FiniteField → Type 0

@@ -6,10 +6,10 @@ use Rattle.lie_ring.specs.Rings.{RingOn, IsElem, IsCommutativeRing, IsFromIntege
 use Rattle.lie_ring.specs.FromNaturals.{from_naturals, integers_from_naturals}
 use Rattle.lie_field.specs.Quotient.{FieldData, degree, order, add, mul, neg, of_int, element, remainder, IsRingData, IsFieldData}
 use Rattle.lie_field.specs.FiniteField.{FiniteField}
-use Rattle.lie_field.specs.FieldTest.{is_lawful}
-use Rattle.lie_field.specs.Laws.{add_comm, add_assoc, add_zero, add_neg, mul_comm, mul_assoc, mul_one, mul-add, add_below, mul_below, neg_below}
-use Rattle.lie_field.specs.Powers.{one_below}
-use Rattle.lie_field.specs.Scalars.{of_nat, of_nat-below, of_nat-zero, of_nat-one, of_nat-plus, of_nat-times}
+use Rattle.lie_field.specs.Algebra.FieldTest.{is_lawful}
+use Rattle.lie_field.specs.Algebra.Laws.{add_comm, add_assoc, add_zero, add_neg, mul_comm, mul_assoc, mul_one, mul-add, add_below, mul_below, neg_below}
+use Rattle.lie_field.specs.Algebra.Powers.{one_below}
+use Rattle.lie_field.specs.Algebra.Scalars.{of_nat, of_nat-below, of_nat-zero, of_nat-one, of_nat-plus, of_nat-times}
 
 -- the elements are the numbers below q, and each has size and degree 0
 abbrev pub field_ring : FiniteField → RingOn ℕ

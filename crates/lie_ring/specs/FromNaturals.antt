@@ -1,10 +1,10 @@
 -- A homomorphism from the natural numbers to a ring is one from the integers.
-use Rattle.std.proofs.Common.{◌≡◌, ℕ, zero, suc, ◌+◌, ◌*◌, refl, sym, ap, ap₂, ◌∙◌, subst, arith}
+use Rattle.std.proofs.Common.{◌≡◌, ℕ, suc, ◌+◌, ◌*◌, sym, ap, ap₂, ◌∙◌, subst, arith}
 use Rattle.std.proofs.lemmas.Int.{ints}
 use Rattle.std.specs.Prelude.{ℤ, pos, negsuc, ◌+ℤ◌, ◌*ℤ◌, neg_ℤ}
-use Rattle.std.proofs.Math.IntN.{pos-*ℤ-pos, pos-*ℤ-negsuc, negsuc-*ℤ-pos, negsuc-*ℤ-negsuc, neg_ℤ-neg_ℤ}
+use Rattle.std.proofs.Math.IntN.{pos-*ℤ-pos, pos-*ℤ-negsuc, negsuc-*ℤ-pos, negsuc-*ℤ-negsuc}
 use Rattle.lie_ring.specs.Rings.{RingOn, IsElem, IsCommutativeRing, IsFromIntegers}
-use Rattle.lie_ring.specs.Facts.{zero_add, add_cancel, add_middle, mul_zero}
+use Rattle.lie_ring.specs.RingLemmas.{zero_add, add_cancel, add_middle, neg_only, neg_neg, mul_neg, neg_mul}
 
 -- h of a natural number, and the negative of h of its absolute value
 abbrev pub from_naturals : {A : Type 0} → RingOn A → (ℕ → A) → ℤ → A
@@ -12,27 +12,6 @@ from_naturals R h (pos n) = h n
 from_naturals R h (negsuc n) = R.neg (h (suc n))
 
 module _ {A : Type 0} (R : RingOn A) (laws : IsCommutativeRing R) where
-  -- the negative is the only one
-  pub neg_only : (a b : A) → IsElem R a → IsElem R b → R.add a b ≡ R.zero → b ≡ R.neg a
-  neg_only a b p q e =
-      let n = laws.neg_elem a p in
-      add_cancel R laws b (R.neg a) a q n p (laws.add_comm b a q p ∙ e ∙ sym (laws.add_neg a p) ∙ laws.add_comm a (R.neg a) p n)
-
-  pub neg_neg : (a : A) → IsElem R a → R.neg (R.neg a) ≡ a
-  neg_neg a p =
-      let n = laws.neg_elem a p in
-      sym (neg_only (R.neg a) a n p (laws.add_comm (R.neg a) a n p ∙ laws.add_neg a p))
-
-  pub mul_neg : (a b : A) → IsElem R a → IsElem R b → R.mul a (R.neg b) ≡ R.neg (R.mul a b)
-  mul_neg a b p q =
-      let n = laws.neg_elem b q in
-      neg_only (R.mul a b) (R.mul a (R.neg b)) (laws.mul_elem a b p q) (laws.mul_elem a (R.neg b) p n)
-      (sym (laws.mul_add a b (R.neg b) p q n) ∙ ap (R.mul a) (laws.add_neg b q) ∙ mul_zero R laws a p)
-
-  pub neg_mul : (a b : A) → IsElem R a → IsElem R b → R.mul (R.neg a) b ≡ R.neg (R.mul a b)
-  neg_mul a b p q =
-      laws.mul_comm (R.neg a) b (laws.neg_elem a p) q ∙ mul_neg b a q p ∙ ap R.neg (laws.mul_comm b a q p)
-
   module _ (h : ℕ → A) (elem : (n : ℕ) → IsElem R (h n)) (none : h 0 ≡ R.zero) (one : h 1 ≡ R.one)
       (sum : (m n : ℕ) → h (m + n) ≡ R.add (h m) (h n)) (product : (m n : ℕ) → h (m * n) ≡ R.mul (h m) (h n)) where
     abbrev int : ℤ → A
@@ -88,24 +67,24 @@ module _ {A : Type 0} (R : RingOn A) (laws : IsCommutativeRing R) where
     int_neg : (z : ℤ) → int (neg_ℤ z) ≡ R.neg (int z)
     int_neg z =
         let cancels : z +ℤ neg_ℤ z ≡ pos 0 = omega (arith, ints) in
-        neg_only (int z) (int (neg_ℤ z)) (int_elem z) (int_elem (neg_ℤ z)) (sym (int_add z (neg_ℤ z)) ∙ ap int cancels ∙ none)
+        neg_only R laws (int z) (int (neg_ℤ z)) (int_elem z) (int_elem (neg_ℤ z)) (sym (int_add z (neg_ℤ z)) ∙ ap int cancels ∙ none)
 
     int_mul : (m n : ℤ) → int (m *ℤ n) ≡ R.mul (int m) (int n)
     int_mul (pos m) (pos n) = ap int (pos-*ℤ-pos m n) ∙ product m n
     int_mul (pos m) (negsuc n) =
         ap int (pos-*ℤ-negsuc m n) ∙ int_neg (pos (m * suc n)) ∙ ap R.neg (product m (suc n))
-        ∙ sym (mul_neg (h m) (h (suc n)) (elem m) (elem (suc n)))
+        ∙ sym (mul_neg R laws (h m) (h (suc n)) (elem m) (elem (suc n)))
     int_mul (negsuc m) (pos n) =
         ap int (negsuc-*ℤ-pos m n) ∙ int_neg (pos (suc m * n)) ∙ ap R.neg (product (suc m) n)
-        ∙ sym (neg_mul (h (suc m)) (h n) (elem (suc m)) (elem n))
+        ∙ sym (neg_mul R laws (h (suc m)) (h n) (elem (suc m)) (elem n))
     int_mul (negsuc m) (negsuc n) =
         let x = h (suc m) in
         let y = h (suc n) in
         let p = elem (suc m) in
         let q = elem (suc n) in
         ap int (negsuc-*ℤ-negsuc m n) ∙ product (suc m) (suc n)
-        ∙ sym (neg_neg (R.mul x y) (laws.mul_elem x y p q))
-        ∙ ap R.neg (sym (mul_neg x y p q)) ∙ sym (neg_mul x (R.neg y) p (laws.neg_elem y q))
+        ∙ sym (neg_neg R laws (R.mul x y) (laws.mul_elem x y p q))
+        ∙ ap R.neg (sym (mul_neg R laws x y p q)) ∙ sym (neg_mul R laws x (R.neg y) p (laws.neg_elem y q))
 
     pub integers_from_naturals : ((n : ℤ) → R.of_int n ≡ int n) → IsFromIntegers R
     integers_from_naturals is = record {

@@ -22,7 +22,7 @@ loop-r-preserved c =
     (elim c.if-is_mixed.branch [
       | then-is_mixed+in-None w ↦ subst (IsGreatestMixedOf ts) (sym w.greatest-is) (mixed_first rs x (subst (IsGreatestMixedOf rs) w.in-None.is c.loop-r.invariant) (c.is_mixed.ensures.0 w.if-is_mixed.true))
       | then-is_mixed+in-Some w ↦ subst (IsGreatestMixedOf ts) (sym w.greatest-is)
-        (mixed_more rs w.in-Some.v w.greater.result x (subst (IsGreatestMixedOf rs) w.in-Some.is c.loop-r.invariant) (c.is_mixed.ensures.0 w.if-is_mixed.true) w.greater.ensures.one w.greater.ensures.first w.greater.ensures.second)
+          (mixed_more rs w.in-Some.v w.greater.result x (subst (IsGreatestMixedOf rs) w.in-Some.is c.loop-r.invariant) (c.is_mixed.ensures.0 w.if-is_mixed.true) w.greater.ensures.one w.greater.ensures.first w.greater.ensures.second)
       | else-is_mixed w ↦ subst (IsGreatestMixedOf ts) (sym w.greatest-is) (mixed_same rs c.loop-r.greatest x c.loop-r.invariant (λ m. (let t = c.is_mixed.ensures.1 m in let f = w.if-is_mixed.false in cc)))
     ])
 

@@ -18,5 +18,7 @@ loop-y-preserved c =
     let low : unsigned_abs s ≤ 629145600000000000000000 = omega (arith, b, few) in
     let is = square_is s k c.pairing-k.ensures.bound low in
     let next = total_take_more (λ y. pairing x y *ℤ pairing x y) ys n [] (omega arith) in
-    rw is (ap (λ t. s +ℤ t *ℤ t) c.pairing-k.ensures.value ∙ ap (λ t. t +ℤ pairing x (get_or ys n []) *ℤ pairing x (get_or ys n [])) c.loop-y.invariant.0 ∙ sym next,
-    square_more s k c.pairing-k.ensures.bound low n b)
+    rw is (
+      ap (λ t. s +ℤ t *ℤ t) c.pairing-k.ensures.value ∙ ap (λ t. t +ℤ pairing x (get_or ys n []) *ℤ pairing x (get_or ys n [])) c.loop-y.invariant.0 ∙ sym next,
+      square_more s k c.pairing-k.ensures.bound low n b,
+    )

@@ -1,0 +1,17 @@
+pub mod ToldLemmas
+pub mod LineLemmas
+pub mod CuttingLemmas
+pub mod DigitLemmas
+pub mod LoopLemmas
+pub mod PieceLemmas
+pub mod SpacedLemmas
+pub mod FieldLineLemmas
+pub mod SoundLemmas
+pub mod ProductLemmas
+pub mod InputLemmas
+pub mod ChangeLemmas
+pub mod StatusLemmas
+pub mod ProgressLemmas
+pub mod CauseLemmas
+pub mod TextLemmas
+pub mod OneOutputLemmas
