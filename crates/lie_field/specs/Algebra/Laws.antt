@@ -92,7 +92,7 @@ module _ (f : FieldData) where
     pub element-same : (u v : List ℕ) → remainder f u ≡ remainder f v → element f u ≡ element f v
     element-same u v e = element-is u ∙ ap (λ r. number f.p (residues f.p r)) e ∙ sym (element-is v)
 
-    element-polynomial : (a : ℕ) → a < order f → element f (polynomial f a) ≡ a
+    pub element-polynomial : (a : ℕ) → a < order f → element f (polynomial f a) ≡ a
     unfolding order
     element-polynomial a h =
         element-is (polynomial f a)
