@@ -12,19 +12,22 @@ use Rattle.lie_script.specs.declared.line.Line.{Line}
 use Rattle.lie_script.specs.declared.line.Line.TheVariants as line
 use Rattle.lie_script.specs.declared.sizes.Sizes.{Sizes}
 use Rattle.lie_script.specs.declared.sizes.Wants.{Wants}
+use Rattle.lie_script.specs.declared.sizes.Wants.TheVariants as wants
 
--- the values fit the sizes, and words are words of each frame with these sizes
-abbrev pub Fits : Sizes → Line → Type 0
-Fits sizes line.Silent = Unit {0}
-Fits sizes (line.Field p k coeffs g) = (length coeffs ≡ k) × All (λ c. is_within (pos 0) (pos 1000000) c ≡ true) coeffs
-Fits sizes (line.Datum d l) = (1 ≤ d) × (d ≤ 8) × (l ≤ d)
-Fits sizes (line.Root v) = length v ≡ sizes.d
-Fits sizes (line.Coroot v) = length v ≡ sizes.d
-Fits sizes line.Load = Unit {0}
-Fits sizes (line.Form w) = (f : FrameData) → HasField sizes f.field → dim f ≡ sizes.d → IsWordOver f w
-Fits sizes line.Roots = Unit {0}
+-- the line was awaited, its values fit the sizes, and words are words of each frame with these sizes
+abbrev pub Fits : Wants → Sizes → Line → Type 0
+Fits awaited sizes line.Silent = Unit {0}
+Fits awaited sizes (line.Field p k coeffs g) =
+    (awaited ≡ wants.Field) × (length coeffs ≡ k) × All (λ c. is_within (pos 0) (pos 1000000) c ≡ true) coeffs
+Fits awaited sizes (line.Datum d l) = (awaited ≡ wants.Datum) × (1 ≤ d) × (d ≤ 8) × (l ≤ d)
+Fits awaited sizes (line.Root v) = (awaited ≡ wants.Root) × (length v ≡ sizes.d)
+Fits awaited sizes (line.Coroot v) = (awaited ≡ wants.Coroot) × (length v ≡ sizes.d)
+Fits awaited sizes line.Load = awaited ≡ wants.Load
+Fits awaited sizes (line.Form w) =
+    (awaited ≡ wants.Command) × ((f : FrameData) → HasField sizes f.field → dim f ≡ sizes.d → IsWordOver f w)
+Fits awaited sizes line.Roots = awaited ≡ wants.Command
 
 -- every line that passes its checks fits
 abbrev pub AcceptedLinesFit : Type 0
 AcceptedLinesFit =
-    (awaited : Wants) (sizes : Sizes) (listed : Listed) (bytes : List ℕ) → IfOk (reads awaited sizes listed bytes) (Fits sizes)
+    (awaited : Wants) (sizes : Sizes) (listed : Listed) (bytes : List ℕ) → IfOk (reads awaited sizes listed bytes) (Fits awaited sizes)

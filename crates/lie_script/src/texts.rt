@@ -41,8 +41,8 @@ impl FaultName {
     }
 }
 
-/// Appends numbers, each after a space.
-fn put_spaced(out: &mut Vec<u8>, numbers: &[i128]) -> Result<(), AllocError>
+/// Appends numbers, each after a space. Where no memory is left some of them are appended.
+pub fn put_spaced(out: &mut Vec<u8>, numbers: &[i128]) -> Result<(), AllocError>
     ensures { OnOk result (out.new.items ≡ out.old.items ++ spaced_text numbers.now) }
 {
     'spaced: for n in numbers {
