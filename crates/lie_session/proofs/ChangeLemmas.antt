@@ -1,90 +1,139 @@
 -- What a reply changes in a session.
-use Rattle.std.proofs.Common.{◌≡◌, ℕ, Bool, true, false, cond, List, Option, Some, None, refl, sym, ap, ◌∙◌, subst, inl, inr}
-use Rattle.std.specs.Prelude.{MatchOption}
+use Rattle.std.proofs.Common.{◌≡◌, ◌≢◌, ℕ, Bool, true, false, cond, List, Option, Some, None, refl, sym, ap, ◌∙◌, subst, inl, inr, Result, Ok, Err}
+use Rattle.std.specs.Prelude.{MatchOption, MatchResult, IfOk, ℤ}
+use Rattle.std.specs.Bool.{MatchBool}
+use Rattle.std.specs.Option.{IfSome}
+use Rattle.lie_datum.specs.RootList.{Roots, IsLoaded}
 use Rattle.lie_field.specs.FiniteField.{FiniteField}
 use Rattle.lie_field.specs.Faults.{IsSized}
-use Rattle.std.specs.Option.{IfSome}
-use Rattle.lie_session.specs.State.{State, reads}
-use Rattle.lie_session.specs.Replies.{next_count, refusal_text, Refuses, Accepts, Answers, AnswersForm, loaded_text, Does, Replies}
+use Rattle.lie_script.specs.Names.{none_listed}
+use Rattle.lie_script.specs.Reading.{reads}
+use Rattle.lie_script.specs.Texts.{line_fault}
+use Rattle.lie_script.specs.declared.faults.Fault.{Fault}
+use Rattle.lie_script.specs.declared.line.Line.{Line}
+use Rattle.lie_script.specs.declared.line.Line.TheVariants as line
+use Rattle.lie_session.specs.DatumLines.{DatumLines, opened, with_root, with_coroot, is_whole}
+use Rattle.lie_session.specs.Faults.{field_refusal, datum_refusal}
+use Rattle.lie_session.specs.State.{State, whole, wants_of, sizes_of}
+use Rattle.lie_session.specs.Texts.{loaded_text, roots_text}
+use Rattle.lie_session.specs.Replies.{next_count, Refuses, Accepts, Answers, AnswersForm, KeepsField, KeepsDatum, ReadsDatum, InDatum, WithBoth, Does, Replies, line_refusal}
 use Rattle.lie_session.specs.Changes.{Changes}
-use Rattle.lie_session.specs.declared.reading.line.Line.{Line}
-use Rattle.lie_session.specs.declared.reading.line.Line.TheVariants as line
-use Rattle.lie_session.specs.declared.refusal.Refusal.{Refusal}
-use Rattle.lie_session.specs.declared.refusal.Refusal.TheVariants as refusal
+use Rattle.lie_session.specs.declared.datum.DatumStage.{DatumStage}
+use Rattle.lie_session.specs.declared.datum.DatumStage.TheVariants as datum
 use Rattle.lie_session.specs.declared.reply.Kind.TheVariants as kind
 use Rattle.lie_session.specs.declared.reply.Reply.{Reply}
 
+-- the states that a reply may lead to
+pub data Moved (s : State) : State → Type 0 where
+  stays : Moved s s
+  counts : Moved s (record s { refusals = next_count s.refusals })
+  ends : Moved s (record s { ended = true })
+  keeps_field : (F : FiniteField) → IsSized F.given → Moved s (record s { field = Some F })
+  reads_datum : (lines : DatumLines) → Moved s (record s { datum = datum.Reading lines })
+  keeps_datum : (D : Roots) → IsLoaded D → Moved s (record s { datum = datum.Whole D })
+  loads : Moved s (record s { loaded = true })
+
+-- what a reply changes, and where it leads
+abbrev Steps : State → Reply → State → Type 0
+Steps s reply next = Changes s reply.kind next × Moved s next
+
 refused_so : (loaded : Bool) (s : State) (bytes : List ℕ) (reply : Reply) (next : State) → s.loaded ≡ loaded
     → reply ≡ record { kind = cond loaded kind.Refused kind.Fatal; bytes = bytes }
-    → next ≡ cond loaded (record s { refusals = next_count s.refusals }) (record s { ended = true }) → Changes s reply.kind next
-refused_so true s bytes reply next is reply_is next_is = subst (λ (r : Reply). Changes s r.kind next) (sym reply_is) (is, next_is)
-refused_so false s bytes reply next is reply_is next_is = subst (λ (r : Reply). Changes s r.kind next) (sym reply_is) (is, next_is)
+    → next ≡ cond loaded (record s { refusals = next_count s.refusals }) (record s { ended = true }) → Steps s reply next
+refused_so true s bytes reply next is reply_is next_is = (subst (λ (r : Reply). Changes s r.kind next) (sym reply_is) (is, next_is), subst (Moved s) (sym next_is) counts)
+refused_so false s bytes reply next is reply_is next_is = (subst (λ (r : Reply). Changes s r.kind next) (sym reply_is) (is, next_is), subst (Moved s) (sym next_is) ends)
 
-refuses_changes : (s : State) (n : ℕ) (why : Refusal) (reply : Reply) (next : State) → Refuses s n why reply next → Changes s reply.kind next
-refuses_changes s n why reply next h = refused_so s.loaded s (refusal_text n why) reply next refl h.0 h.1
+refuses_steps : (s : State) (text : List ℕ) (reply : Reply) (next : State) → Refuses s text reply next → Steps s reply next
+refuses_steps s text reply next h = refused_so s.loaded s text reply next refl h.0 h.1
 
-accepts_changes : (s after : State) (reply : Reply) (next : State) → after.ended ≡ s.ended → after.refusals ≡ s.refusals → Accepts after reply next → Changes s reply.kind next
-accepts_changes s after reply next ended refusals h =
-    subst (λ (r : Reply). Changes s r.kind next) (sym h.0) (ap (λ (t : State). t.ended) h.1 ∙ ended, ap (λ (t : State). t.refusals) h.1 ∙ refusals)
+accepts_steps : (s after : State) (reply : Reply) (next : State) → after.ended ≡ s.ended → after.refusals ≡ s.refusals → Moved s after → Accepts after reply next → Steps s reply next
+accepts_steps s after reply next ended refusals moved h = (
+  subst (λ (r : Reply). Changes s r.kind next) (sym h.0) (ap (λ (t : State). t.ended) h.1 ∙ ended, ap (λ (t : State). t.refusals) h.1 ∙ refusals),
+  subst (Moved s) (sym h.1) moved,
+)
 
-answers_changes : (s after : State) (text : List ℕ) (reply : Reply) (next : State) → after.ended ≡ s.ended → after.refusals ≡ s.refusals → Answers after text reply next → Changes s reply.kind next
-answers_changes s after text reply next ended refusals h =
-    subst (λ (r : Reply). Changes s r.kind next) (sym h.0) (ap (λ (t : State). t.ended) h.1 ∙ ended, ap (λ (t : State). t.refusals) h.1 ∙ refusals)
+answers_steps : (s after : State) (text : List ℕ) (reply : Reply) (next : State) → after.ended ≡ s.ended → after.refusals ≡ s.refusals → Moved s after → Answers after text reply next → Steps s reply next
+answers_steps s after text reply next ended refusals moved h = (
+  subst (λ (r : Reply). Changes s r.kind next) (sym h.0) (ap (λ (t : State). t.ended) h.1 ∙ ended, ap (λ (t : State). t.refusals) h.1 ∙ refusals),
+  subst (Moved s) (sym h.1) moved,
+)
 
 -- a command with a field and a datum
-with_both : {P : Type 0} (Q : FiniteField → ℕ → Type 0) (field : Option FiniteField) (d : Option ℕ) → ((F : FiniteField) (n : ℕ) → Q F n → P)
-    → MatchOption field ⊥ (λ F. MatchOption d ⊥ (λ n. Q F n)) → P
+pub with_both : {P : Type 0} (Q : FiniteField → Roots → Type 0) (field : Option FiniteField) (d : Option Roots) → ((F : FiniteField) (D : Roots) → Q F D → P)
+    → MatchOption field ⊥ (λ F. MatchOption d ⊥ (λ D. Q F D)) → P
 with_both Q None d go h = absurd h
 with_both Q (Some F) None go h = absurd h
-with_both Q (Some F) (Some n) go h = go F n h
+with_both Q (Some F) (Some D) go h = go F D h
 
-does_changes : (s : State) (n : ℕ) (said : Line) (reply : Reply) (next : State) → Does s n said reply next → Changes s reply.kind next
-does_changes s n line.Silent reply next h = accepts_changes s s reply next refl refl h
-does_changes s n (line.Field p g) reply next (inl h) = accepts_changes s (record s { field = Some h.0 }) reply next refl refl h.2
-does_changes s n (line.Field p g) reply next (inr h) = refuses_changes s n refusal.Field reply next h.1
-does_changes s n (line.Datum d) reply next h = accepts_changes s (record s { d = Some d }) reply next refl refl h
-does_changes s n line.Load reply next h =
-    with_both (λ F d. Answers (record s { loaded = true }) (loaded_text F d) reply next) s.field s.d
-    (λ F d a. answers_changes s (record s { loaded = true }) (loaded_text F d) reply next refl refl a) h
-does_changes s n (line.Form w) reply next h =
-    with_both (λ F d. AnswersForm s F d w reply next) s.field s.d (λ F d a. answers_changes s s a.0 reply next refl refl a.2) h
+-- a line of a datum
+pub in_datum : {P : Type 0} (Q : DatumLines → Type 0) (stage : DatumStage) → ((lines : DatumLines) → Q lines → P) → InDatum stage Q → P
+in_datum Q datum.Missing go h = absurd h
+in_datum Q (datum.Reading lines) go h = go lines h
+in_datum Q (datum.Whole D) go h = absurd h
 
-replied_changes : (s : State) (n : ℕ) (said : Option Line) (reply : Reply) (next : State)
-    → MatchOption said (Refuses s n refusal.Line reply next) (λ said. Does s n said reply next) → Changes s reply.kind next
-replied_changes s n None reply next h = refuses_changes s n refusal.Line reply next h
-replied_changes s n (Some said) reply next h = does_changes s n said reply next h
+field_steps : (s : State) (n p : ℕ) (coeffs : List ℤ) (g : ℕ) (reply : Reply) (next : State) → KeepsField s n p coeffs g reply next → Steps s reply next
+field_steps s n p coeffs g reply next (inl h) = accepts_steps s (record s { field = Some h.0 }) reply next refl refl (keeps_field h.0 h.2) h.3
+field_steps s n p coeffs g reply next (inr h) = refuses_steps s (field_refusal n h.0) reply next h.3
+
+datum_steps : (s : State) (n : ℕ) (lines : DatumLines) (reply : Reply) (next : State) → KeepsDatum s n lines reply next → Steps s reply next
+datum_steps s n lines reply next (inl h) = accepts_steps s (record s { datum = datum.Whole h.0 }) reply next refl refl (keeps_datum h.0 h.1.1) h.2
+datum_steps s n lines reply next (inr h) = refuses_steps s (datum_refusal n lines.rank h.0) reply next h.3
+
+joined_steps : (last : Bool) (s : State) (n : ℕ) (lines : DatumLines) (reply : Reply) (next : State)
+    → MatchBool last (KeepsDatum s n lines reply next) (Accepts (record s { datum = datum.Reading lines }) reply next) → Steps s reply next
+joined_steps true s n lines reply next h = datum_steps s n lines reply next h
+joined_steps false s n lines reply next h = accepts_steps s (record s { datum = datum.Reading lines }) reply next refl refl (reads_datum lines) h
+
+does_steps : (s : State) (n : ℕ) (said : Line) (reply : Reply) (next : State) → Does s n said reply next → Steps s reply next
+does_steps s n line.Silent reply next h = accepts_steps s s reply next refl refl stays h
+does_steps s n (line.Field p k coeffs g) reply next h = field_steps s n p coeffs g reply next h
+does_steps s n (line.Datum d l) reply next h = joined_steps (is_whole (opened d l)) s n (opened d l) reply next h
+does_steps s n (line.Root v) reply next h =
+    in_datum (λ lines. ReadsDatum s n (with_root lines v) reply next) s.datum (λ lines r. joined_steps (is_whole (with_root lines v)) s n (with_root lines v) reply next r) h
+does_steps s n (line.Coroot v) reply next h =
+    in_datum (λ lines. ReadsDatum s n (with_coroot lines v) reply next) s.datum (λ lines r. joined_steps (is_whole (with_coroot lines v)) s n (with_coroot lines v) reply next r) h
+does_steps s n line.Load reply next h =
+    with_both (λ F D. Answers (record s { loaded = true }) (loaded_text F D) reply next) s.field (whole s.datum)
+    (λ F D a. answers_steps s (record s { loaded = true }) (loaded_text F D) reply next refl refl loads a) h
+does_steps s n (line.Form w) reply next h =
+    with_both (λ F D. AnswersForm s F D.base.dim w reply next) s.field (whole s.datum) (λ F D a. answers_steps s s a.0 reply next refl refl stays a.2) h
+does_steps s n line.Roots reply next h =
+    with_both (λ F D. Answers s (roots_text D) reply next) s.field (whole s.datum) (λ F D a. answers_steps s s (roots_text D) reply next refl refl stays a) h
+
+replied_steps : (s : State) (n : ℕ) (read : Result Line Fault) (reply : Reply) (next : State)
+    → MatchResult read (λ said. Does s n said reply next) (λ why. Refuses s (line_refusal n (line_fault why)) reply next) → Steps s reply next
+replied_steps s n (Ok said) reply next h = does_steps s n said reply next h
+replied_steps s n (Err why) reply next h = refuses_steps s (line_refusal n (line_fault why)) reply next h
+
+steps_from : (s : State) (n : ℕ) (bytes : List ℕ) (reply : Reply) (next : State) → Replies s n bytes reply next → Steps s reply next
+steps_from s n bytes reply next h = replied_steps s n (reads (wants_of s) (sizes_of s) none_listed bytes) reply next h
 
 -- a reply changes what its kind says
 pub changes_from : (s : State) (n : ℕ) (bytes : List ℕ) (reply : Reply) (next : State) → Replies s n bytes reply next → Changes s reply.kind next
-changes_from s n bytes reply next h = replied_changes s n (reads s bytes) reply next h
+changes_from s n bytes reply next h = (steps_from s n bytes reply next h).0
 
--- ---- the field stays within the limits
+-- the same of an answer
+pub changes_if : {E : Type 0} (s : State) (n : ℕ) (bytes : List ℕ) (next : State) (result : Result Reply E) → IfOk result (λ reply. Replies s n bytes reply next) → IfOk result (λ reply. Changes s reply.kind next)
+changes_if s n bytes next (Ok reply) h = changes_from s n bytes reply next h
+changes_if s n bytes next (Err e) h = tt
 
-abbrev pub IsSizedIn : State → Type 0
-IsSizedIn s = IfSome s.field (λ F. IsSized F.given)
+-- ---- what is kept is sound
 
-refused_sized : (loaded : Bool) (s : State) → IsSizedIn s → IsSizedIn (cond loaded (record s { refusals = next_count s.refusals }) (record s { ended = true }))
-refused_sized true s h = h
-refused_sized false s h = h
+-- the field is within the limits, and the datum meets the axioms
+pub record IsSoundState (s : State) : Type 0 where
+  pub sized : IfSome s.field (λ F. IsSized F.given)
+  pub loaded : IfSome (whole s.datum) IsLoaded
 
-refuses_sized : (s : State) (n : ℕ) (why : Refusal) (reply : Reply) (next : State) → IsSizedIn s → Refuses s n why reply next → IsSizedIn next
-refuses_sized s n why reply next h r = subst IsSizedIn (sym r.1) (refused_sized s.loaded s h)
+sound_moved : (s next : State) → IsSoundState s → Moved s next → IsSoundState next
+sound_moved s _ sound stays = sound
+sound_moved s _ sound counts = record { sized = sound.sized; loaded = sound.loaded }
+sound_moved s _ sound ends = record { sized = sound.sized; loaded = sound.loaded }
+sound_moved s _ sound (keeps_field F sized) = record { sized = sized; loaded = sound.loaded }
+sound_moved s _ sound (reads_datum lines) = record { sized = sound.sized; loaded = tt }
+sound_moved s _ sound (keeps_datum D axioms) = record { sized = sound.sized; loaded = axioms }
+sound_moved s _ sound loads = record { sized = sound.sized; loaded = sound.loaded }
 
-does_sized : (s : State) (n : ℕ) (said : Line) (reply : Reply) (next : State) → IsSizedIn s → Does s n said reply next → IsSizedIn next
-does_sized s n line.Silent reply next sized h = subst IsSizedIn (sym h.1) sized
-does_sized s n (line.Field p g) reply next sized (inl h) = subst IsSizedIn (sym h.2.1) h.1.1
-does_sized s n (line.Field p g) reply next sized (inr h) = refuses_sized s n refusal.Field reply next sized h.1
-does_sized s n (line.Datum d) reply next sized h = subst IsSizedIn (sym h.1) sized
-does_sized s n line.Load reply next sized h =
-    with_both (λ F d. Answers (record s { loaded = true }) (loaded_text F d) reply next) s.field s.d (λ F d a. subst IsSizedIn (sym a.1) sized) h
-does_sized s n (line.Form w) reply next sized h =
-    with_both (λ F d. AnswersForm s F d w reply next) s.field s.d (λ F d a. subst IsSizedIn (sym a.2.1) sized) h
+-- what a line brings is sound
+pub sound_from : (s : State) (n : ℕ) (bytes : List ℕ) (reply : Reply) (next : State) → IsSoundState s → Replies s n bytes reply next → IsSoundState next
+sound_from s n bytes reply next sound h = sound_moved s next sound (steps_from s n bytes reply next h).1
 
-replied_sized : (s : State) (n : ℕ) (said : Option Line) (reply : Reply) (next : State) → IsSizedIn s
-    → MatchOption said (Refuses s n refusal.Line reply next) (λ said. Does s n said reply next) → IsSizedIn next
-replied_sized s n None reply next sized h = refuses_sized s n refusal.Line reply next sized h
-replied_sized s n (Some said) reply next sized h = does_sized s n said reply next sized h
-
--- each field that a line brings is within the limits
-pub sized_from : (s : State) (n : ℕ) (bytes : List ℕ) (reply : Reply) (next : State) → IsSizedIn s → Replies s n bytes reply next → IsSizedIn next
-sized_from s n bytes reply next sized h = replied_sized s n (reads s bytes) reply next sized h

@@ -1,21 +1,40 @@
 -- A script has one output alone.
-use Rattle.std.proofs.Common.{◌≡◌, ℕ, ◌+◌, Bool, true, false, List, [], ◌∷◌, ◌++◌, length, Option, Some, None, sym, ap, ap₂, ◌∙◌, subst, inl, inr}
-use Rattle.std.specs.Prelude.{MatchOption}
+use Rattle.std.proofs.Common.{◌≡◌, ◌≢◌, ℕ, ◌+◌, Bool, true, false, List, [], ◌∷◌, ◌++◌, length, Option, Some, None, sym, ap, ap₂, ◌∙◌, subst, inl, inr, Result, Ok, Err}
+use Rattle.std.specs.Prelude.{MatchOption, MatchResult, ℤ, map, nat_abs}
 use Rattle.std.specs.Bool.{MatchBool}
 use Rattle.std.specs.Option.{IfSome}
+use Rattle.lie_datum.specs.Load.{Loads}
+use Rattle.lie_datum.specs.RootList.{Roots}
+use Rattle.lie_datum.specs.declared.faults.DatumFault.{DatumFault}
+use Rattle.lie_datum.specs.declared.faults.DatumFault.TheVariants as datum_fault
+use Rattle.lie_datum.proofs.OneAnswer.{loads_one_way}
 use Rattle.lie_field.specs.FiniteField.{FiniteField, same_field}
-use Rattle.lie_field.specs.Faults.{IsSized}
+use Rattle.lie_field.specs.Algebra.FieldTest.{is_lawful}
+use Rattle.lie_field.specs.Faults.{IsSized, IsFault}
+use Rattle.lie_field.specs.Quotient.{FieldData, field_data, IsFieldData}
+use Rattle.lie_field.specs.declared.faults.FieldFault.{FieldFault}
+use Rattle.lie_field.specs.declared.faults.FieldFault.TheVariants as field_fault
+use Rattle.lie_field.proofs.FaultLemmas.{faults_once, field_has_no_fault}
 use Rattle.lie_letters.specs.declared.letter.Letter.{Letter}
+use Rattle.lie_script.specs.Names.{none_listed}
+use Rattle.lie_script.specs.Reading.{reads}
+use Rattle.lie_script.specs.Texts.{line_fault}
+use Rattle.lie_script.specs.declared.faults.Fault.{Fault}
+use Rattle.lie_script.specs.declared.line.Line.{Line}
+use Rattle.lie_script.specs.declared.line.Line.TheVariants as line
+use Rattle.lie_session.specs.DatumLines.{DatumLines, opened, with_root, with_coroot, is_whole, base_of}
+use Rattle.lie_session.specs.Faults.{field_refusal, datum_refusal}
 use Rattle.lie_session.specs.Lines.{lines_of}
-use Rattle.lie_session.specs.State.{State, fresh, reads}
-use Rattle.lie_session.specs.Replies.{Refuses, Answers, KeepsField, AnswersForm, loaded_text, Does, Replies, RepliesAtEnd}
-use Rattle.lie_session.specs.Output.{RepliesTo, AreReplies, bytes_of, status_of, IsOutput}
-use Rattle.lie_session.specs.declared.reading.line.Line.{Line}
-use Rattle.lie_session.specs.declared.reading.line.Line.TheVariants as line
-use Rattle.lie_session.specs.declared.refusal.Refusal.TheVariants as refusal
+use Rattle.lie_session.specs.State.{State, fresh, whole, wants_of, sizes_of}
+use Rattle.lie_session.specs.Texts.{loaded_text, roots_text}
+use Rattle.lie_session.specs.Replies.{Refuses, Accepts, Answers, KeepsField, KeepsDatum, ReadsDatum, InDatum, AnswersForm, Does, Replies, RepliesAtEnd, line_refusal}
+use Rattle.lie_session.specs.Output.{rests, RepliesTo, AreReplies, bytes_of, status_of, IsOutput}
+use Rattle.lie_session.specs.declared.datum.DatumStage.{DatumStage}
+use Rattle.lie_session.specs.declared.datum.DatumStage.TheVariants as datum
+use Rattle.lie_session.specs.declared.mode.Mode.{Mode}
 use Rattle.lie_session.specs.declared.reply.Reply.{Reply}
 use Rattle.lie_session.specs.declared.status.Status.{Status}
-use Rattle.lie_session.proofs.ChangeLemmas.{IsSizedIn, sized_from}
+use Rattle.lie_session.proofs.ChangeLemmas.{IsSoundState, sound_from}
 use Rattle.lie_session.proofs.TextLemmas.{one_text}
 
 -- one reply, and one state after it
@@ -25,60 +44,115 @@ Same r r' t t' = (r ≡ r') × (t ≡ t')
 both : {r r' x : Reply} {t t' y : State} → (r ≡ x) × (t ≡ y) → (r' ≡ x) × (t' ≡ y) → Same r r' t t'
 both h h' = (h.0 ∙ sym h'.0, h.1 ∙ sym h'.1)
 
-one_field : (s : State) (n p g : ℕ) (r r' : Reply) (t t' : State) → KeepsField s n p g r t → KeepsField s n p g r' t' → Same r r' t t'
-one_field s n p g r r' t t' (inl h) (inl h') =
-    let same : h.0 ≡ h'.0 = same_field h.0 h'.0 (h.1.0 ∙ sym h'.1.0) in
-    (h.2.0 ∙ sym h'.2.0, h.2.1 ∙ ap (λ (F : FiniteField). record s { field = Some F }) same ∙ sym h'.2.1)
-one_field s n p g r r' t t' (inl h) (inr h') = absurd (h.1.2 h'.0)
-one_field s n p g r r' t t' (inr h) (inl h') = absurd (h'.1.2 h.0)
-one_field s n p g r r' t t' (inr h) (inr h') = both h.1 h'.1
+-- the same refusal
+refused_alike : (s : State) (text text' : List ℕ) (r r' : Reply) (t t' : State) → text ≡ text' → Refuses s text r t → Refuses s text' r' t' → Same r r' t t'
+refused_alike s text text' r r' t t' same h h' = both h (subst (λ z. Refuses s z r' t') (sym same) h')
 
-one_answer : (s : State) (text text' : List ℕ) (r r' : Reply) (t t' : State) → text ≡ text' → Answers s text r t → Answers s text' r' t' → Same r r' t t'
-one_answer s text text' r r' t t' same h h' = both h (subst (λ z. Answers s z r' t') (sym same) h')
+-- a field within the limits has no fault
+no_fault : (given : FieldData) (F : FiniteField) (why : FieldFault) → F.given ≡ given → IsSized F.given → IsFault given why → why ≡ field_fault.NoMemory
+no_fault given F why is sized fault = field_has_no_fault given (subst IsSized is sized) (subst IsFieldData is (is_lawful F)) why fault
 
-one_load : (s : State) (field : Option FiniteField) (d : Option ℕ) (r r' : Reply) (t t' : State)
-    → MatchOption field ⊥ (λ F. MatchOption d ⊥ (λ d. Answers (record s { loaded = true }) (loaded_text F d) r t))
-    → MatchOption field ⊥ (λ F. MatchOption d ⊥ (λ d. Answers (record s { loaded = true }) (loaded_text F d) r' t')) → Same r r' t t'
-one_load s None d r r' t t' h h' = absurd h
-one_load s (Some F) None r r' t t' h h' = absurd h
-one_load s (Some F) (Some d) r r' t t' h h' = both h h'
+one_field : (s : State) (n p : ℕ) (coeffs : List ℤ) (g : ℕ) (r r' : Reply) (t t' : State) → KeepsField s n p coeffs g r t → KeepsField s n p coeffs g r' t' → Same r r' t t'
+one_field s n p coeffs g r r' t t' (inl h) (inl h') =
+    let same : h.0 ≡ h'.0 = same_field h.0 h'.0 (h.1 ∙ sym h'.1) in
+    (h.3.0 ∙ sym h'.3.0, h.3.1 ∙ ap (λ (F : FiniteField). record s { field = Some F }) same ∙ sym h'.3.1)
+one_field s n p coeffs g r r' t t' (inl h) (inr h') = absurd (h'.1 (no_fault (field_data p (map nat_abs coeffs) g) h.0 h'.0 h.1 h.2 h'.2))
+one_field s n p coeffs g r r' t t' (inr h) (inl h') = absurd (h.1 (no_fault (field_data p (map nat_abs coeffs) g) h'.0 h.0 h'.1 h'.2 h.2))
+one_field s n p coeffs g r r' t t' (inr h) (inr h') =
+    refused_alike s (field_refusal n h.0) (field_refusal n h'.0) r r' t t' (ap (field_refusal n) (faults_once (field_data p (map nat_abs coeffs) g) h.0 h'.0 h.2 h'.2 h.1 h'.1)) h.3 h'.3
 
-one_form : (s : State) (w : List Letter) (field : Option FiniteField) (d : Option ℕ) (r r' : Reply) (t t' : State) → IfSome field (λ F. IsSized F.given)
-    → MatchOption field ⊥ (λ F. MatchOption d ⊥ (λ d. AnswersForm s F d w r t))
-    → MatchOption field ⊥ (λ F. MatchOption d ⊥ (λ d. AnswersForm s F d w r' t')) → Same r r' t t'
+-- what loading a datum answers
+abbrev Answer : Type 0
+Answer = Result Roots DatumFault
+
+ok_named : (D : Roots) → ◌≡◌ {A = Answer} (Ok D) (Err datum_fault.NoMemory) → ⊥
+ok_named D e = absurd cc
+
+err_named : (why : DatumFault) → why ≢ datum_fault.NoMemory → ◌≡◌ {A = Answer} (Err why) (Err datum_fault.NoMemory) → ⊥
+err_named why named e = let is : why ≡ datum_fault.NoMemory = cc in named is
+
+ok_is : (D D' : Roots) → ◌≡◌ {A = Answer} (Ok D) (Ok D') → D ≡ D'
+ok_is D D' e = cc
+
+err_is : (why why' : DatumFault) → ◌≡◌ {A = Answer} (Err why) (Err why') → why ≡ why'
+err_is why why' e = cc
+
+ok_err : (D : Roots) (why : DatumFault) → ◌≡◌ {A = Answer} (Ok D) (Err why) → ⊥
+ok_err D why e = absurd cc
+
+one_datum : (s : State) (n : ℕ) (lines : DatumLines) (r r' : Reply) (t t' : State) → KeepsDatum s n lines r t → KeepsDatum s n lines r' t' → Same r r' t t'
+one_datum s n lines r r' t t' (inl h) (inl h') =
+    let same : h.0 ≡ h'.0 = ok_is h.0 h'.0 (loads_one_way (base_of lines) (Ok h.0) (Ok h'.0) h.1 h'.1 (ok_named h.0) (ok_named h'.0)) in
+    (h.2.0 ∙ sym h'.2.0, h.2.1 ∙ ap (λ (D : Roots). record s { datum = datum.Whole D }) same ∙ sym h'.2.1)
+one_datum s n lines r r' t t' (inl h) (inr h') = absurd (ok_err h.0 h'.0 (loads_one_way (base_of lines) (Ok h.0) (Err h'.0) h.1 h'.2 (ok_named h.0) (err_named h'.0 h'.1)))
+one_datum s n lines r r' t t' (inr h) (inl h') = absurd (ok_err h'.0 h.0 (loads_one_way (base_of lines) (Ok h'.0) (Err h.0) h'.1 h.2 (ok_named h'.0) (err_named h.0 h.1)))
+one_datum s n lines r r' t t' (inr h) (inr h') =
+    refused_alike s (datum_refusal n lines.rank h.0) (datum_refusal n lines.rank h'.0) r r' t t'
+    (ap (datum_refusal n lines.rank) (err_is h.0 h'.0 (loads_one_way (base_of lines) (Err h.0) (Err h'.0) h.2 h'.2 (err_named h.0 h.1) (err_named h'.0 h'.1)))) h.3 h'.3
+
+one_joined : (last : Bool) (s : State) (n : ℕ) (lines : DatumLines) (r r' : Reply) (t t' : State)
+    → MatchBool last (KeepsDatum s n lines r t) (Accepts (record s { datum = datum.Reading lines }) r t)
+    → MatchBool last (KeepsDatum s n lines r' t') (Accepts (record s { datum = datum.Reading lines }) r' t') → Same r r' t t'
+one_joined true s n lines r r' t t' h h' = one_datum s n lines r r' t t' h h'
+one_joined false s n lines r r' t t' h h' = both h h'
+
+one_in_datum : (s : State) (n : ℕ) (grown : DatumLines → DatumLines) (stage : DatumStage) (r r' : Reply) (t t' : State)
+    → InDatum stage (λ lines. ReadsDatum s n (grown lines) r t) → InDatum stage (λ lines. ReadsDatum s n (grown lines) r' t') → Same r r' t t'
+one_in_datum s n grown datum.Missing r r' t t' h h' = absurd h
+one_in_datum s n grown (datum.Reading lines) r r' t t' h h' = one_joined (is_whole (grown lines)) s n (grown lines) r r' t t' h h'
+one_in_datum s n grown (datum.Whole D) r r' t t' h h' = absurd h
+
+-- the same answer, by a text that the field and the datum tell
+one_answer : (s : State) (text : FiniteField → Roots → List ℕ) (field : Option FiniteField) (d : Option Roots) (r r' : Reply) (t t' : State)
+    → MatchOption field ⊥ (λ F. MatchOption d ⊥ (λ D. Answers s (text F D) r t))
+    → MatchOption field ⊥ (λ F. MatchOption d ⊥ (λ D. Answers s (text F D) r' t')) → Same r r' t t'
+one_answer s text None d r r' t t' h h' = absurd h
+one_answer s text (Some F) None r r' t t' h h' = absurd h
+one_answer s text (Some F) (Some D) r r' t t' h h' = both h h'
+
+answered_alike : (s : State) (text text' : List ℕ) (r r' : Reply) (t t' : State) → text ≡ text' → Answers s text r t → Answers s text' r' t' → Same r r' t t'
+answered_alike s text text' r r' t t' same h h' = both h (subst (λ z. Answers s z r' t') (sym same) h')
+
+one_form : (s : State) (w : List Letter) (field : Option FiniteField) (d : Option Roots) (r r' : Reply) (t t' : State) → IfSome field (λ F. IsSized F.given)
+    → MatchOption field ⊥ (λ F. MatchOption d ⊥ (λ D. AnswersForm s F D.base.dim w r t))
+    → MatchOption field ⊥ (λ F. MatchOption d ⊥ (λ D. AnswersForm s F D.base.dim w r' t')) → Same r r' t t'
 one_form s w None d r r' t t' sized h h' = absurd h
 one_form s w (Some F) None r r' t t' sized h h' = absurd h
-one_form s w (Some F) (Some d) r r' t t' sized h h' = one_answer s h.0 h'.0 r r' t t' (one_text F d w h.0 h'.0 sized h.1 h'.1) h.2 h'.2
+one_form s w (Some F) (Some D) r r' t t' sized h h' = answered_alike s h.0 h'.0 r r' t t' (one_text F D.base.dim w h.0 h'.0 sized h.1 h'.1) h.2 h'.2
 
-one_done : (s : State) (n : ℕ) (said : Line) (r r' : Reply) (t t' : State) → IsSizedIn s → Does s n said r t → Does s n said r' t' → Same r r' t t'
-one_done s n line.Silent r r' t t' sized h h' = both h h'
-one_done s n (line.Field p g) r r' t t' sized h h' = one_field s n p g r r' t t' h h'
-one_done s n (line.Datum d) r r' t t' sized h h' = both h h'
-one_done s n line.Load r r' t t' sized h h' = one_load s s.field s.d r r' t t' h h'
-one_done s n (line.Form w) r r' t t' sized h h' = one_form s w s.field s.d r r' t t' sized h h'
+one_done : (s : State) (n : ℕ) (said : Line) (r r' : Reply) (t t' : State) → IsSoundState s → Does s n said r t → Does s n said r' t' → Same r r' t t'
+one_done s n line.Silent r r' t t' sound h h' = both h h'
+one_done s n (line.Field p k coeffs g) r r' t t' sound h h' = one_field s n p coeffs g r r' t t' h h'
+one_done s n (line.Datum d l) r r' t t' sound h h' = one_joined (is_whole (opened d l)) s n (opened d l) r r' t t' h h'
+one_done s n (line.Root v) r r' t t' sound h h' = one_in_datum s n (λ lines. with_root lines v) s.datum r r' t t' h h'
+one_done s n (line.Coroot v) r r' t t' sound h h' = one_in_datum s n (λ lines. with_coroot lines v) s.datum r r' t t' h h'
+one_done s n line.Load r r' t t' sound h h' = one_answer (record s { loaded = true }) loaded_text s.field (whole s.datum) r r' t t' h h'
+one_done s n (line.Form w) r r' t t' sound h h' = one_form s w s.field (whole s.datum) r r' t t' sound.sized h h'
+one_done s n line.Roots r r' t t' sound h h' = one_answer s (λ F D. roots_text D) s.field (whole s.datum) r r' t t' h h'
 
-one_said : (s : State) (n : ℕ) (said : Option Line) (r r' : Reply) (t t' : State) → IsSizedIn s
-    → MatchOption said (Refuses s n refusal.Line r t) (λ said. Does s n said r t) → MatchOption said (Refuses s n refusal.Line r' t') (λ said. Does s n said r' t') → Same r r' t t'
-one_said s n None r r' t t' sized h h' = both h h'
-one_said s n (Some said) r r' t t' sized h h' = one_done s n said r r' t t' sized h h'
+one_said : (s : State) (n : ℕ) (read : Result Line Fault) (r r' : Reply) (t t' : State) → IsSoundState s
+    → MatchResult read (λ said. Does s n said r t) (λ why. Refuses s (line_refusal n (line_fault why)) r t)
+    → MatchResult read (λ said. Does s n said r' t') (λ why. Refuses s (line_refusal n (line_fault why)) r' t') → Same r r' t t'
+one_said s n (Ok said) r r' t t' sound h h' = one_done s n said r r' t t' sound h h'
+one_said s n (Err why) r r' t t' sound h h' = both h h'
 
 -- a line has one reply
-one_reply : (s : State) (n : ℕ) (bytes : List ℕ) (r r' : Reply) (t t' : State) → IsSizedIn s → Replies s n bytes r t → Replies s n bytes r' t' → Same r r' t t'
-one_reply s n bytes r r' t t' sized h h' = one_said s n (reads s bytes) r r' t t' sized h h'
+one_reply : (s : State) (n : ℕ) (bytes : List ℕ) (r r' : Reply) (t t' : State) → IsSoundState s → Replies s n bytes r t → Replies s n bytes r' t' → Same r r' t t'
+one_reply s n bytes r r' t t' sound h h' = one_said s n (reads (wants_of s) (sizes_of s) none_listed bytes) r r' t t' sound h h'
 
 -- lines have the same replies
-one_run : (s : State) (n : ℕ) (lines : List (List ℕ)) (a b : List Reply) (t u : State) → IsSizedIn s → RepliesTo s n lines a t → RepliesTo s n lines b u → (a ≡ b) × (t ≡ u)
-one_run s n [] a b t u sized h h' = (h.0 ∙ sym h'.0, h.1 ∙ sym h'.1)
-one_run s n (line ∷ lines) a b t u sized h h' = by_ended s.ended h h' (λ next others others' there on on'. one_run next (n + 1) lines others others' t u there on on') where
+one_run : (mode : Mode) (s : State) (n : ℕ) (lines : List (List ℕ)) (a b : List Reply) (t u : State) → IsSoundState s → RepliesTo mode s n lines a t → RepliesTo mode s n lines b u → (a ≡ b) × (t ≡ u)
+one_run mode s n [] a b t u sound h h' = (h.0 ∙ sym h'.0, h.1 ∙ sym h'.1)
+one_run mode s n (line ∷ lines) a b t u sound h h' = by_ended (rests mode s) h h' (λ next others others' there on on'. one_run mode next (n + 1) lines others others' t u there on on') where
   by_ended : (ended : Bool)
-      → MatchBool ended ((a ≡ []) × (t ≡ s)) ((r : Reply) × (next : State) × (others : List Reply) × Replies s (n + 1) line r next × (a ≡ r ∷ others) × RepliesTo next (n + 1) lines others t)
-      → MatchBool ended ((b ≡ []) × (u ≡ s)) ((r : Reply) × (next : State) × (others : List Reply) × Replies s (n + 1) line r next × (b ≡ r ∷ others) × RepliesTo next (n + 1) lines others u)
-      → ((next : State) (others others' : List Reply) → IsSizedIn next → RepliesTo next (n + 1) lines others t → RepliesTo next (n + 1) lines others' u → (others ≡ others') × (t ≡ u))
+      → MatchBool ended ((a ≡ []) × (t ≡ s)) ((r : Reply) × (next : State) × (others : List Reply) × Replies s (n + 1) line r next × (a ≡ r ∷ others) × RepliesTo mode next (n + 1) lines others t)
+      → MatchBool ended ((b ≡ []) × (u ≡ s)) ((r : Reply) × (next : State) × (others : List Reply) × Replies s (n + 1) line r next × (b ≡ r ∷ others) × RepliesTo mode next (n + 1) lines others u)
+      → ((next : State) (others others' : List Reply) → IsSoundState next → RepliesTo mode next (n + 1) lines others t → RepliesTo mode next (n + 1) lines others' u → (others ≡ others') × (t ≡ u))
       → (a ≡ b) × (t ≡ u)
   by_ended true h h' on = (h.0 ∙ sym h'.0, h.1 ∙ sym h'.1)
   by_ended false h h' on =
-      let one = one_reply s (n + 1) line h.0 h'.0 h.1 h'.1 sized h.3 h'.3 in
-      let same = on h.1 h.2 h'.2 (sized_from s (n + 1) line h.0 h.1 sized h.3) h.5 (subst (λ (z : State). RepliesTo z (n + 1) lines h'.2 u) (sym one.1) h'.5) in
+      let one = one_reply s (n + 1) line h.0 h'.0 h.1 h'.1 sound h.3 h'.3 in
+      let same = on h.1 h.2 h'.2 (sound_from s (n + 1) line h.0 h.1 sound h.3) h.5 (subst (λ (z : State). RepliesTo mode z (n + 1) lines h'.2 u) (sym one.1) h'.5) in
       (h.4 ∙ ap₂ (λ (r : Reply) (z : List Reply). r ∷ z) one.0 same.0 ∙ sym h'.4, same.1)
 
 one_end : (input : List ℕ) (front : List Reply) (last : State) (a b : List Reply) (ended : Bool)
@@ -88,16 +162,16 @@ one_end input front last a b true h h' = h ∙ sym h'
 one_end input front last a b false h h' = h.3 ∙ ap (λ (r : Reply). front ++ r ∷ []) (h.2.0 ∙ sym h'.2.0) ∙ sym h'.3
 
 -- a script has the same replies
-one_script : (input : List ℕ) (a b : List Reply) → AreReplies input a → AreReplies input b → a ≡ b
-one_script input a b h h' =
-    let same = one_run fresh 0 (lines_of input) h.0 h'.0 h.1 h'.1 tt h.2 h'.2 in
-    let again : MatchBool (let s : State = h.1 in s.ended) (b ≡ h.0) ((r : Reply) × (over : State) × RepliesAtEnd h.1 (length (lines_of input)) r over × (b ≡ h.0 ++ r ∷ [])) =
-    subst (λ (z : List Reply). MatchBool (let s : State = h.1 in s.ended) (b ≡ z) ((r : Reply) × (over : State) × RepliesAtEnd h.1 (length (lines_of input)) r over × (b ≡ z ++ r ∷ []))) (sym same.0)
-    (subst (λ (s : State). MatchBool s.ended (b ≡ h'.0) ((r : Reply) × (over : State) × RepliesAtEnd s (length (lines_of input)) r over × (b ≡ h'.0 ++ r ∷ []))) (sym same.1) h'.3) in
-    one_end input h.0 h.1 a b (let s : State = h.1 in s.ended) h.3 again
+one_script : (mode : Mode) (input : List ℕ) (a b : List Reply) → AreReplies mode input a → AreReplies mode input b → a ≡ b
+one_script mode input a b h h' =
+    let same = one_run mode fresh 0 (lines_of input) h.0 h'.0 h.1 h'.1 (record { sized = tt; loaded = tt }) h.2 h'.2 in
+    let again : MatchBool (rests mode h.1) (b ≡ h.0) ((r : Reply) × (over : State) × RepliesAtEnd h.1 (length (lines_of input)) r over × (b ≡ h.0 ++ r ∷ [])) =
+    subst (λ (z : List Reply). MatchBool (rests mode h.1) (b ≡ z) ((r : Reply) × (over : State) × RepliesAtEnd h.1 (length (lines_of input)) r over × (b ≡ z ++ r ∷ []))) (sym same.0)
+    (subst (λ (s : State). MatchBool (rests mode s) (b ≡ h'.0) ((r : Reply) × (over : State) × RepliesAtEnd s (length (lines_of input)) r over × (b ≡ h'.0 ++ r ∷ []))) (sym same.1) h'.3) in
+    one_end input h.0 h.1 a b (rests mode h.1) h.3 again
 
 -- a script has one output alone, with one status
-pub one_output : (input out other : List ℕ) (status status' : Status) → IsOutput input out status → IsOutput input other status' → (out ≡ other) × (status ≡ status')
-one_output input out other status status' h h' =
-    let same = one_script input h.0 h'.0 h.1 h'.1 in
+pub one_output : (mode : Mode) (input out other : List ℕ) (status status' : Status) → IsOutput mode input out status → IsOutput mode input other status' → (out ≡ other) × (status ≡ status')
+one_output mode input out other status status' h h' =
+    let same = one_script mode input h.0 h'.0 h.1 h'.1 in
     (h.2 ∙ ap bytes_of same ∙ sym h'.2, h.3 ∙ ap status_of same ∙ sym h'.3)

@@ -1,49 +1,67 @@
 -- The status by the kinds of the replies, and the state after them.
-use Rattle.std.proofs.Common.{◌≡◌, ℕ, ◌+◌, Bool, true, false, cond, ◌||◌, List, [], ◌∷◌, ◌++◌, Some, refl, sym, ap, ◌∙◌, subst, arith}
+use Rattle.std.proofs.Common.{◌≡◌, ◌≢◌, ℕ, ◌+◌, Bool, true, false, cond, ◌||◌, List, [], ◌∷◌, ◌++◌, Option, Some, refl, sym, ap, ◌∙◌, subst, arith}
 use Rattle.std.specs.Prelude.{not, nat_eq}
 use Rattle.std.specs.Bool.{MatchBool}
 use Rattle.std.proofs.lemmas.Bool.{false≢true}
+use Rattle.lie_datum.specs.RootList.{Roots, IsLoaded}
 use Rattle.lie_field.specs.FiniteField.{FiniteField}
 use Rattle.lie_field.specs.Faults.{IsSized}
 use Rattle.std.specs.Option.{IfSome}
-use Rattle.lie_session.specs.State.{State, fresh, ended_status}
-use Rattle.lie_session.specs.Replies.{next_count, refusal_text, Replies, RepliesAtEnd}
+use Rattle.lie_script.specs.Texts.{name_of, refusal}
+use Rattle.lie_script.specs.declared.faults.FaultName.TheVariants as fault
+use Rattle.lie_session.specs.State.{State, fresh, whole, ended_status}
+use Rattle.lie_session.specs.Replies.{next_count, Replies, RepliesAtEnd}
 use Rattle.lie_session.specs.Changes.{Changes}
-use Rattle.lie_session.specs.Output.{RepliesTo, has, is_fatal, is_refused, status_of}
-use Rattle.lie_session.specs.declared.refusal.Refusal.TheVariants as refusal
+use Rattle.lie_session.specs.Output.{rests, RepliesTo, has, is_fatal, is_refused, status_of}
+use Rattle.lie_session.specs.declared.mode.Mode.{Mode}
+use Rattle.lie_session.specs.declared.mode.Mode.TheVariants.{Run, Check}
 use Rattle.lie_session.specs.declared.reply.Kind.{Kind}
 use Rattle.lie_session.specs.declared.reply.Kind.TheVariants as kind
 use Rattle.lie_session.specs.declared.reply.Reply.{Reply}
+use Rattle.lie_session.specs.declared.status.Status.{Status}
 use Rattle.lie_session.specs.declared.status.Status.TheVariants.{Done, Refused, LoadRefused}
-use Rattle.lie_session.proofs.ChangeLemmas.{changes_from, sized_from, IsSizedIn}
+use Rattle.lie_session.proofs.ChangeLemmas.{changes_from, sound_from, IsSoundState}
+
+-- a session that goes on is not ended
+pub live_from : (mode : Mode) (s : State) → rests mode s ≡ false → s.ended ≡ false
+live_from Run s on = on
+live_from Check s on = neither s.ended s.loaded on where
+  neither : (a b : Bool) → (a || b) ≡ false → a ≡ false
+  neither true b h = absurd (false≢true (sym h))
+  neither false b h = refl
+
+-- an ended session rests
+pub rests_ended : (mode : Mode) (s : State) → s.ended ≡ true → rests mode s ≡ true
+rests_ended Run s over = over
+rests_ended Check s over = ap (λ b. b || s.loaded) over
 
 -- the next line of a session that goes on
-pub record Begun (s : State) (n : ℕ) (line : List ℕ) (lines : List (List ℕ)) (replies : List Reply) (last : State) : Type 0 where
+pub record Begun (mode : Mode) (s : State) (n : ℕ) (line : List ℕ) (lines : List (List ℕ)) (replies : List Reply) (last : State) : Type 0 where
   pub reply : Reply
   pub next : State
   pub others : List Reply
   pub replied : Replies s (n + 1) line reply next
   pub are : replies ≡ reply ∷ others
-  pub on : RepliesTo next (n + 1) lines others last
+  pub on : RepliesTo mode next (n + 1) lines others last
 
-begun_so : (ended : Bool) (s : State) (n : ℕ) (line : List ℕ) (lines : List (List ℕ)) (replies : List Reply) (last : State) → ended ≡ false
+begun_so : (mode : Mode) (ended : Bool) (s : State) (n : ℕ) (line : List ℕ) (lines : List (List ℕ)) (replies : List Reply) (last : State) → ended ≡ false
     → MatchBool ended ((replies ≡ []) × (last ≡ s))
-    ((reply : Reply) × (next : State) × (others : List Reply) × Replies s (n + 1) line reply next × (replies ≡ reply ∷ others) × RepliesTo next (n + 1) lines others last)
-    → Begun s n line lines replies last
-begun_so true s n line lines replies last is h = absurd (false≢true (sym is))
-begun_so false s n line lines replies last is h = record { reply = h.0; next = h.1; others = h.2; replied = h.3; are = h.4; on = h.5 }
+    ((reply : Reply) × (next : State) × (others : List Reply) × Replies s (n + 1) line reply next × (replies ≡ reply ∷ others) × RepliesTo mode next (n + 1) lines others last)
+    → Begun mode s n line lines replies last
+begun_so mode true s n line lines replies last is h = absurd (false≢true (sym is))
+begun_so mode false s n line lines replies last is h = record { reply = h.0; next = h.1; others = h.2; replied = h.3; are = h.4; on = h.5 }
 
-pub begun : (s : State) (n : ℕ) (line : List ℕ) (lines : List (List ℕ)) (replies : List Reply) (last : State) → s.ended ≡ false → RepliesTo s n (line ∷ lines) replies last → Begun s n line lines replies last
-begun s n line lines replies last live h = begun_so s.ended s n line lines replies last live h
+pub begun : (mode : Mode) (s : State) (n : ℕ) (line : List ℕ) (lines : List (List ℕ)) (replies : List Reply) (last : State) → rests mode s ≡ false → RepliesTo mode s n (line ∷ lines) replies last → Begun mode s n line lines replies last
+begun mode s n line lines replies last live h = begun_so mode (rests mode s) s n line lines replies last live h
 
 over_so : (ended : Bool) (P Q : Type 0) → ended ≡ true → MatchBool ended P Q → P
 over_so true P Q is h = h
 over_so false P Q is h = absurd (false≢true is)
 
--- an ended session replies to no more
-pub ended_none : (s : State) (n : ℕ) (lines : List (List ℕ)) (replies : List Reply) (last : State) → s.ended ≡ true → RepliesTo s n lines replies last → (replies ≡ []) × (last ≡ s)
-ended_none s n [] replies last over h = h
-ended_none s n (line ∷ lines) replies last over h = over_so s.ended ((replies ≡ []) × (last ≡ s)) _ over h
+-- a session that rests replies to no more
+pub ended_none : (mode : Mode) (s : State) (n : ℕ) (lines : List (List ℕ)) (replies : List Reply) (last : State) → rests mode s ≡ true → RepliesTo mode s n lines replies last → (replies ≡ []) × (last ≡ s)
+ended_none mode s n [] replies last over h = h
+ended_none mode s n (line ∷ lines) replies last over h = over_so (rests mode s) ((replies ≡ []) × (last ≡ s)) _ over h
 
 -- what the kinds of the replies tell of the last state
 pub record Tells (s : State) (replies : List Reply) (last : State) : Type 0 where
@@ -84,14 +102,14 @@ tells_fatal s reply next others last is unloaded next_is over =
           ∙ ap (λ (z : List Reply). has is_refused z || not (nat_eq s.refusals 0)) over.0 ∙ sym (ap (λ (t : State). not (nat_eq t.refusals 0)) end);
     }
 
-tells : (s : State) (n : ℕ) (lines : List (List ℕ)) (replies : List Reply) (last : State) → s.ended ≡ false → RepliesTo s n lines replies last → Tells s replies last
-tells s n [] replies last live h =
+tells_rest : (s : State) (replies : List Reply) (last : State) → s.ended ≡ false → (replies ≡ []) × (last ≡ s) → Tells s replies last
+tells_rest s replies last live h =
     subst (λ (t : State). Tells s replies t) (sym h.1) (subst (λ (z : List Reply). Tells s z s) (sym h.0) (tells_none s live))
-tells s n (line ∷ lines) replies last live h =
-    let b = begun s n line lines replies last live h in
-    subst (λ (z : List Reply). Tells s z last) (sym b.are)
-    (by_kind b.reply.kind b.reply b.next b.others refl (changes_from s (n + 1) line b.reply b.next b.replied)
-    (λ goes. tells b.next (n + 1) lines b.others last goes b.on) (λ over. ended_none b.next (n + 1) lines b.others last over b.on)) where
+
+tells : (mode : Mode) (s : State) (n : ℕ) (lines : List (List ℕ)) (replies : List Reply) (last : State) → s.ended ≡ false → RepliesTo mode s n lines replies last → Tells s replies last
+tells mode s n [] replies last live h = tells_rest s replies last live h
+tells mode s n (line ∷ lines) replies last live h =
+    by_rest (rests mode s) refl (λ next others goes on. tells mode next (n + 1) lines others last goes on) where
       by_kind : (k : Kind) (reply : Reply) (next : State) (others : List Reply) → reply.kind ≡ k → Changes s k next → (next.ended ≡ false → Tells next others last)
           → (next.ended ≡ true → (others ≡ []) × (last ≡ next)) → Tells s (reply ∷ others) last
       by_kind kind.Silent reply next others is c on over =
@@ -104,6 +122,14 @@ tells s n (line ∷ lines) replies last live h =
       by_kind kind.Fatal reply next others is c on over =
           tells_fatal s reply next others last is c.0 c.1 (over (ap (λ (t : State). t.ended) c.1))
 
+      by_rest : (rest : Bool) → rests mode s ≡ rest → ((next : State) (others : List Reply) → next.ended ≡ false → RepliesTo mode next (n + 1) lines others last → Tells next others last) → Tells s replies last
+      by_rest true is on = tells_rest s replies last live (ended_none mode s n (line ∷ lines) replies last is h)
+      by_rest false is on =
+          let b = begun mode s n line lines replies last is h in
+          subst (λ (z : List Reply). Tells s z last) (sym b.are)
+          (by_kind b.reply.kind b.reply b.next b.others refl (changes_from s (n + 1) line b.reply b.next b.replied)
+          (λ goes. on b.next b.others goes b.on) (λ over. ended_none mode b.next (n + 1) lines b.others last (rests_ended mode b.next over) b.on))
+
 has-append : (test : Kind → Bool) (a b : List Reply) → has test (a ++ b) ≡ (has test a || has test b)
 has-append test [] b = refl
 has-append test (reply ∷ a) b = ap (λ z. test reply.kind || z) (has-append test a b) ∙ regroup (test reply.kind) (has test a) (has test b) where
@@ -111,29 +137,44 @@ has-append test (reply ∷ a) b = ap (λ z. test reply.kind || z) (has-append te
   regroup true y z = refl
   regroup false y z = refl
 
--- after a fatal reply
-pub status-ended : (lines : List (List ℕ)) (replies : List Reply) (last : State) → RepliesTo fresh 0 lines replies last → last.ended ≡ true → status_of replies ≡ ended_status last
-status-ended lines replies last h over =
-    let t = tells fresh 0 lines replies last refl h in
+other : (b : Bool) (k : ℕ) → b ≡ not (nat_eq k 0) → cond b Refused Done ≡ cond (nat_eq k 0) Done Refused
+other b k is = ap (λ z. cond z Refused Done) is ∙ swapped (nat_eq k 0) where
+  swapped : (z : Bool) → cond (not z) Refused Done ≡ cond z Done Refused
+  swapped true = refl
+  swapped false = refl
+
+rested : (ended loaded : Bool) (replies : List Reply) (last : State) → last.ended ≡ ended → last.loaded ≡ loaded → (ended || loaded) ≡ true → Tells fresh replies last → status_of replies ≡ ended_status last
+rested true loaded replies last over is rest t =
     ap (λ b. cond b LoadRefused (cond (has is_refused replies) Refused Done)) (t.fatal ∙ over)
     ∙ sym (ap (λ b. cond b (cond (nat_eq last.refusals 0) Done Refused) LoadRefused) (t.unloaded over))
+rested false true replies last live is rest t =
+    ap (λ b. cond b LoadRefused (cond (has is_refused replies) Refused Done)) (t.fatal ∙ live)
+    ∙ other (has is_refused replies) last.refusals (or_false (has is_refused replies) ∙ t.refused)
+    ∙ sym (ap (λ b. cond b (cond (nat_eq last.refusals 0) Done Refused) LoadRefused) is) where
+      or_false : (b : Bool) → b ≡ (b || false)
+      or_false true = refl
+      or_false false = refl
+rested false false replies last live is rest t = absurd (false≢true rest)
+
+either : (mode : Mode) (s : State) → rests mode s ≡ true → (s.ended || s.loaded) ≡ true
+either Run s rest = ap (λ b. b || s.loaded) rest
+either Check s rest = rest
+
+-- after the last reply of a session that rests
+pub status-ended : (mode : Mode) (lines : List (List ℕ)) (replies : List Reply) (last : State) → RepliesTo mode fresh 0 lines replies last → rests mode last ≡ true → status_of replies ≡ ended_status last
+status-ended mode lines replies last h rest =
+    rested last.ended last.loaded replies last refl refl (either mode last rest) (tells mode fresh 0 lines replies last refl h)
 
 chosen_kind : Bool → Kind
 chosen_kind true = kind.Silent
 chosen_kind false = kind.Fatal
 
 -- after the reply of the end
-pub status-end : (lines : List (List ℕ)) (front : List Reply) (last : State) (n : ℕ) (reply : Reply) (over : State) → RepliesTo fresh 0 lines front last → last.ended ≡ false
+pub status-end : (mode : Mode) (lines : List (List ℕ)) (front : List Reply) (last : State) (n : ℕ) (reply : Reply) (over : State) → RepliesTo mode fresh 0 lines front last → last.ended ≡ false
     → RepliesAtEnd last n reply over → status_of (front ++ reply ∷ []) ≡ ended_status last
-status-end lines front last n reply over h live r =
-    let t = tells fresh 0 lines front last refl h in
+status-end mode lines front last n reply over h live r =
+    let t = tells mode fresh 0 lines front last refl h in
     by_loaded last.loaded refl (ap (λ (k : Reply). k.kind) r.0) t where
-      other : (b : Bool) (k : ℕ) → b ≡ not (nat_eq k 0) → cond b Refused Done ≡ cond (nat_eq k 0) Done Refused
-      other b k is = ap (λ z. cond z Refused Done) is ∙ swapped (nat_eq k 0) where
-        swapped : (z : Bool) → cond (not z) Refused Done ≡ cond z Done Refused
-        swapped true = refl
-        swapped false = refl
-
       or_false : (b : Bool) → (b || false) ≡ b
       or_false true = refl
       or_false false = refl
@@ -143,10 +184,10 @@ status-end lines front last n reply over h live r =
       or_true false = refl
 
       by_loaded : (loaded : Bool) → last.loaded ≡ loaded
-          → reply.kind ≡ (let k : Reply = cond last.loaded (record { kind = kind.Silent; bytes = [] }) (record { kind = kind.Fatal; bytes = refusal_text n refusal.End }) in k.kind)
+          → reply.kind ≡ (let k : Reply = cond last.loaded (record { kind = kind.Silent; bytes = [] }) (record { kind = kind.Fatal; bytes = refusal n (name_of fault.End) [] }) in k.kind)
           → Tells fresh front last → status_of (front ++ reply ∷ []) ≡ ended_status last
       by_loaded true is k t =
-          let silent : reply.kind ≡ kind.Silent = k ∙ ap (λ (b : Bool). let z : Reply = cond b (record { kind = kind.Silent; bytes = [] }) (record { kind = kind.Fatal; bytes = refusal_text n refusal.End }) in z.kind) is in
+          let silent : reply.kind ≡ kind.Silent = k ∙ ap (λ (b : Bool). let z : Reply = cond b (record { kind = kind.Silent; bytes = [] }) (record { kind = kind.Fatal; bytes = refusal n (name_of fault.End) [] }) in z.kind) is in
           let fatal : has is_fatal (front ++ reply ∷ []) ≡ false =
           has-append is_fatal front (reply ∷ []) ∙ ap (λ z. has is_fatal front || (is_fatal z || false)) silent ∙ or_false (has is_fatal front) ∙ t.fatal ∙ live in
           let refused : has is_refused (front ++ reply ∷ []) ≡ not (nat_eq last.refusals 0) =
@@ -155,21 +196,53 @@ status-end lines front last n reply over h live r =
           ∙ other (has is_refused (front ++ reply ∷ [])) last.refusals refused
           ∙ sym (ap (λ b. cond b (cond (nat_eq last.refusals 0) Done Refused) LoadRefused) is)
       by_loaded false is k t =
-          let silent : reply.kind ≡ kind.Fatal = k ∙ ap (λ (b : Bool). let z : Reply = cond b (record { kind = kind.Silent; bytes = [] }) (record { kind = kind.Fatal; bytes = refusal_text n refusal.End }) in z.kind) is in
+          let silent : reply.kind ≡ kind.Fatal = k ∙ ap (λ (b : Bool). let z : Reply = cond b (record { kind = kind.Silent; bytes = [] }) (record { kind = kind.Fatal; bytes = refusal n (name_of fault.End) [] }) in z.kind) is in
           let fatal : has is_fatal (front ++ reply ∷ []) ≡ true =
           has-append is_fatal front (reply ∷ []) ∙ ap (λ z. has is_fatal front || (is_fatal z || false)) silent ∙ or_true (has is_fatal front) in
           ap (λ b. cond b LoadRefused (cond (has is_refused (front ++ reply ∷ [])) Refused Done)) fatal
           ∙ sym (ap (λ b. cond b (cond (nat_eq last.refusals 0) Done Refused) LoadRefused) is)
 
--- each field that a script brings is within the limits
-sized_to : (s : State) (n : ℕ) (lines : List (List ℕ)) (replies : List Reply) (last : State) → IsSizedIn s → RepliesTo s n lines replies last → IsSizedIn last
-sized_to s n [] replies last sized h = subst IsSizedIn (sym h.1) sized
-sized_to s n (line ∷ lines) replies last sized h = by_ended s.ended h (λ next others there on. sized_to next (n + 1) lines others last there on) where
-  by_ended : (ended : Bool) → MatchBool ended ((replies ≡ []) × (last ≡ s))
-      ((reply : Reply) × (next : State) × (others : List Reply) × Replies s (n + 1) line reply next × (replies ≡ reply ∷ others) × RepliesTo next (n + 1) lines others last)
-      → ((next : State) (others : List Reply) → IsSizedIn next → RepliesTo next (n + 1) lines others last → IsSizedIn last) → IsSizedIn last
-  by_ended true h on = subst IsSizedIn (sym h.1) sized
-  by_ended false h on = on h.1 h.2 (sized_from s (n + 1) line h.0 h.1 sized h.3) h.5
+-- a script keeps the session sound
+sound_to : (mode : Mode) (s : State) (n : ℕ) (lines : List (List ℕ)) (replies : List Reply) (last : State) → IsSoundState s → RepliesTo mode s n lines replies last → IsSoundState last
+sound_to mode s n [] replies last sound h = subst IsSoundState (sym h.1) sound
+sound_to mode s n (line ∷ lines) replies last sound h = by_rest (rests mode s) h (λ next others there on. sound_to mode next (n + 1) lines others last there on) where
+  by_rest : (rest : Bool) → MatchBool rest ((replies ≡ []) × (last ≡ s))
+      ((reply : Reply) × (next : State) × (others : List Reply) × Replies s (n + 1) line reply next × (replies ≡ reply ∷ others) × RepliesTo mode next (n + 1) lines others last)
+      → ((next : State) (others : List Reply) → IsSoundState next → RepliesTo mode next (n + 1) lines others last → IsSoundState last) → IsSoundState last
+  by_rest true h on = subst IsSoundState (sym h.1) sound
+  by_rest false h on = on h.1 h.2 (sound_from s (n + 1) line h.0 h.1 sound h.3) h.5
 
-pub fields_are_sized : (lines : List (List ℕ)) (replies : List Reply) (s : State) (F : FiniteField) → RepliesTo fresh 0 lines replies s → s.field ≡ Some F → IsSized F.given
-fields_are_sized lines replies s F h is = subst (λ o. IfSome o (λ (F : FiniteField). IsSized F.given)) is (sized_to fresh 0 lines replies s tt h)
+-- each field that a script brings is within the limits
+pub fields_are_sized : (mode : Mode) (lines : List (List ℕ)) (replies : List Reply) (s : State) (F : FiniteField) → RepliesTo mode fresh 0 lines replies s → s.field ≡ Some F → IsSized F.given
+fields_are_sized mode lines replies s F h is =
+    subst (λ o. IfSome o (λ (F : FiniteField). IsSized F.given)) is (sound_to mode fresh 0 lines replies s (record { sized = tt; loaded = tt }) h).sized
+
+-- each datum that a script brings meets the axioms
+pub data_are_loaded : (mode : Mode) (lines : List (List ℕ)) (replies : List Reply) (s : State) (D : Roots) → RepliesTo mode fresh 0 lines replies s → whole s.datum ≡ Some D → IsLoaded D
+data_are_loaded mode lines replies s D h is = subst (λ o. IfSome o IsLoaded) is (sound_to mode fresh 0 lines replies s (record { sized = tt; loaded = tt }) h).loaded
+
+-- ---- before `load` nothing is counted
+
+-- a line before `load` is not counted
+pub uncounted : (s : State) (n : ℕ) (bytes : List ℕ) (reply : Reply) (next : State) → s.loaded ≡ false → s.refusals ≡ 0 → Replies s n bytes reply next → next.refusals ≡ 0
+uncounted s n bytes reply next early none h = by_kind reply.kind (changes_from s n bytes reply next h) where
+  by_kind : (k : Kind) → Changes s k next → next.refusals ≡ 0
+  by_kind kind.Silent c = c.1 ∙ none
+  by_kind kind.Answer c = c.1 ∙ none
+  by_kind kind.Refused c = absurd (false≢true (sym early ∙ c.0))
+  by_kind kind.Fatal c = ap (λ (t : State). t.refusals) c.1 ∙ none
+
+-- a check that goes on has no group
+pub check_unloaded : (s : State) → rests Check s ≡ false → s.loaded ≡ false
+check_unloaded s on = second s.ended s.loaded on where
+  second : (a b : Bool) → (a || b) ≡ false → b ≡ false
+  second true b h = absurd (false≢true (sym h))
+  second false b h = h
+
+-- where nothing is counted the status is not `Refused`
+pub not_refused : (s : State) → s.refusals ≡ 0 → ended_status s ≢ Refused
+not_refused s none = by_loaded s.loaded (nat_eq s.refusals 0) (ap (λ k. nat_eq k 0) none) where
+  by_loaded : (a b : Bool) → b ≡ true → cond a (cond b Done Refused) LoadRefused ≢ Refused
+  by_loaded true true is e = absurd cc
+  by_loaded true false is e = absurd (false≢true is)
+  by_loaded false b is e = absurd cc

@@ -15,8 +15,9 @@ use Rattle.lie_letters.specs.Spelled.{JoinedSpelled}
 use Rattle.lie_letters.specs.declared.letter.Letter.{Letter}
 use Rattle.lie_letters.specs.declared.letter.Letter.TheVariants.{H}
 use Rattle.lie_letters.proofs.CallerLemmas.{JoinedSpelled-refl, JoinedSpelled-flip, JoinedSpelled-over, torus_letters_decide}
-use Rattle.lie_session.specs.Reading.{torus_frame}
-use Rattle.lie_session.specs.Replies.{FormTextOf, form_text}
+use Rattle.lie_session.specs.Replies.{torus_frame}
+use Rattle.lie_session.specs.Replies.{FormTextOf}
+use Rattle.lie_session.specs.Texts.{form_text}
 use Rattle.lie_session.proofs.ProductLemmas.{entries_joined}
 
 abbrev NoBlank : List ℕ → Type 0

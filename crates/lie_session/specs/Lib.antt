@@ -1,12 +1,10 @@
 pub mod Lines
-pub mod Fields
-pub mod Numbers
-pub mod Checks
-pub mod LineFields
-pub mod Reading
+pub mod DatumLines
 pub mod State
-pub mod FieldLines
+pub mod Texts
+pub mod Faults
 pub mod Replies
+pub mod Ready
 pub mod Changes
 pub mod Output
 pub mod Runs

@@ -5,42 +5,45 @@
 --   answer     an accepted line with a reply
 --   refused    a line that is refused after `load`
 --   fatal      a refusal up to and with `load`, which ends the session
-use Rattle.std.specs.Prelude.{◌≡◌, ◌⊎◌, ◌↔◌, ℕ, ◌+◌, ◌-◌, ◌^◌, min, if◌then◌else◌, true, List, [], ◌∷◌, ◌++◌, map, Some, codes, decimal, MatchOption}
-use Rattle.std.specs.List.{join_with_byte}
+use Rattle.std.specs.Prelude.{◌≡◌, ◌≢◌, ◌⊎◌, ◌↔◌, ℕ, ◌+◌, ◌-◌, ◌^◌, min, if◌then◌else◌, ℤ, nat_abs, true, List, [], ◌∷◌, map, Some, Ok, Err, MatchOption, MatchResult}
+use Rattle.std.specs.Bool.{MatchBool}
+use Rattle.lie_datum.specs.Load.{Loads}
+use Rattle.lie_datum.specs.RootList.{Roots}
+use Rattle.lie_datum.specs.declared.faults.DatumFault.{DatumFault}
+use Rattle.lie_datum.specs.declared.faults.DatumFault.TheVariants as datum_fault
 use Rattle.lie_field.specs.FiniteField.{FiniteField}
-use Rattle.lie_field.specs.Quotient.{order}
-use Rattle.lie_field.specs.Faults.{IsSized}
+use Rattle.lie_field.specs.Quotient.{field_data}
+use Rattle.lie_field.specs.Faults.{IsSized, IsFault}
+use Rattle.lie_field.specs.declared.faults.FieldFault.{FieldFault}
+use Rattle.lie_field.specs.declared.faults.FieldFault.TheVariants as field_fault
+use Rattle.lie_letters.specs.Setting.{FrameData}
 use Rattle.lie_letters.specs.Spelled.{JoinedSpelled}
 use Rattle.lie_letters.specs.declared.letter.Letter.{Letter}
 use Rattle.lie_letters.specs.declared.letter.Letter.TheVariants.{H}
-use Rattle.lie_session.specs.FieldLines.{IsNoField, IsFieldOf}
-use Rattle.lie_session.specs.Reading.{torus_frame}
-use Rattle.lie_session.specs.State.{State, reads}
-use Rattle.lie_session.specs.declared.reading.line.Line.{Line}
-use Rattle.lie_session.specs.declared.reading.line.Line.TheVariants as line
-use Rattle.lie_session.specs.declared.refusal.Refusal.{Refusal}
-use Rattle.lie_session.specs.declared.refusal.Refusal.TheVariants as refusal
+use Rattle.lie_script.specs.Names.{none_listed}
+use Rattle.lie_script.specs.Reading.{reads}
+use Rattle.lie_script.specs.Texts.{line_fault, name_of, refusal}
+use Rattle.lie_script.specs.declared.faults.FaultName.TheVariants as fault
+use Rattle.lie_script.specs.declared.faults.LineFault.{LineFault}
+use Rattle.lie_script.specs.declared.line.Line.{Line}
+use Rattle.lie_script.specs.declared.line.Line.TheVariants as line
+use Rattle.lie_session.specs.DatumLines.{DatumLines, opened, with_root, with_coroot, is_whole, base_of}
+use Rattle.lie_session.specs.Faults.{field_refusal, datum_refusal}
+use Rattle.lie_session.specs.State.{State, whole, wants_of, sizes_of}
+use Rattle.lie_session.specs.Texts.{loaded_text, form_text, roots_text}
+use Rattle.lie_session.specs.declared.datum.DatumStage.{DatumStage}
+use Rattle.lie_session.specs.declared.datum.DatumStage.TheVariants as datum
 use Rattle.lie_session.specs.declared.reply.Kind.TheVariants as kind
 use Rattle.lie_session.specs.declared.reply.Reply.{Reply}
-
--- the name of a refusal
-abbrev pub name_of : Refusal → List ℕ
-name_of refusal.Line = codes "line"
-name_of refusal.Field = codes "field"
-name_of refusal.End = codes "end"
-
--- `refused <line> <name>`
-abbrev pub refusal_text : ℕ → Refusal → List ℕ
-refusal_text n why = codes "refused " ++ decimal n ++ codes " " ++ name_of why ++ codes "\n"
 
 -- one more, but at the last value of u64
 abbrev pub next_count : ℕ → ℕ
 next_count n = min (n + 1) (2 ^ 64 - 1)
 
 -- a refusal up to and with `load` is fatal, and a later one is counted; nothing else changes
-abbrev pub Refuses : State → ℕ → Refusal → Reply → State → Type 0
-Refuses s n why reply next =
-    (reply ≡ record { kind = if s.loaded then kind.Refused else kind.Fatal; bytes = refusal_text n why })
+abbrev pub Refuses : State → List ℕ → Reply → State → Type 0
+Refuses s text reply next =
+    (reply ≡ record { kind = if s.loaded then kind.Refused else kind.Fatal; bytes = text })
     × (next ≡ (if s.loaded then record s { refusals = next_count s.refusals } else record s { ended = true }))
 
 -- an accepted line without a reply
@@ -51,19 +54,40 @@ Accepts next reply new = (reply ≡ record { kind = kind.Silent; bytes = [] }) �
 abbrev pub Answers : State → List ℕ → Reply → State → Type 0
 Answers next text reply new = (reply ≡ record { kind = kind.Answer; bytes = text }) × (new ≡ next)
 
--- the field of p and g is kept; where there is none within the limits, the line is refused
-abbrev pub KeepsField : State → ℕ → ℕ → ℕ → Reply → State → Type 0
-KeepsField s n p g reply next =
-    ((F : FiniteField) × IsFieldOf p g F × Accepts (record s { field = Some F }) reply next)
-    ⊎ (IsNoField p g × Refuses s n refusal.Field reply next)
+-- ---- the lines up to `load`
 
--- `loaded <elements of the field> <coordinates> <roots> <dimension>`
-abbrev pub loaded_text : FiniteField → ℕ → List ℕ
-loaded_text F d = codes "loaded " ++ decimal (order F.given) ++ codes " " ++ decimal d ++ codes " 0 " ++ decimal d ++ codes "\n"
+-- the field of the numbers of a line is kept; where they give none within the limits, the line is refused for the first fault
+abbrev pub KeepsField : State → ℕ → ℕ → List ℤ → ℕ → Reply → State → Type 0
+KeepsField s n p coeffs g reply next =
+    ((F : FiniteField) × (F.given ≡ field_data p (map nat_abs coeffs) g) × IsSized F.given × Accepts (record s { field = Some F }) reply next)
+    ⊎ ((why : FieldFault) × (why ≢ field_fault.NoMemory) × IsFault (field_data p (map nat_abs coeffs) g) why × Refuses s (field_refusal n why) reply next)
 
--- the text of the form of a torus vector
-abbrev pub form_text : List ℕ → List ℕ
-form_text t = codes "- | " ++ join_with_byte 32 (map decimal t) ++ codes " | - | -\n"
+-- the datum of whole lines is kept; where they give none, the line is refused for the first fault
+abbrev pub KeepsDatum : State → ℕ → DatumLines → Reply → State → Type 0
+KeepsDatum s n lines reply next =
+    ((D : Roots) × Loads (base_of lines) (Ok D) × Accepts (record s { datum = datum.Whole D }) reply next)
+    ⊎ ((why : DatumFault) × (why ≢ datum_fault.NoMemory) × Loads (base_of lines) (Err why) × Refuses s (datum_refusal n lines.rank why) reply next)
+
+-- a line joins the lines of the datum, and the last one completes them
+abbrev pub ReadsDatum : State → ℕ → DatumLines → Reply → State → Type 0
+ReadsDatum s n lines reply next =
+    MatchBool (is_whole lines) (KeepsDatum s n lines reply next) (Accepts (record s { datum = datum.Reading lines }) reply next)
+
+-- P of the lines of the datum that is being read
+abbrev pub InDatum : DatumStage → (DatumLines → Type 0) → Type 0
+InDatum datum.Missing P = ⊥
+InDatum (datum.Reading lines) P = P lines
+InDatum (datum.Whole D) P = ⊥
+
+-- P of the field and the datum
+abbrev pub WithBoth : State → (FiniteField → Roots → Type 0) → Type 0
+WithBoth s P = MatchOption s.field ⊥ (λ F. MatchOption (whole s.datum) ⊥ (λ D. P F D))
+
+-- ---- commands
+
+-- what words over a field and d coordinates speak of
+abbrev pub torus_frame : FiniteField → ℕ → FrameData
+torus_frame F d = record { field = F; axes = d }
 
 -- the text of a torus vector whose letter a chain joins to the word
 abbrev pub FormTextOf : FiniteField → ℕ → List Letter → List ℕ → Type 0
@@ -73,23 +97,33 @@ FormTextOf F d w text = (t : List ℕ) × JoinedSpelled (torus_frame F d) (H t �
 abbrev pub AnswersForm : State → FiniteField → ℕ → List Letter → Reply → State → Type 0
 AnswersForm s F d w reply next = (text : List ℕ) × FormTextOf F d w text × Answers s text reply next
 
+-- ---- any line
+
 -- what is done with a line that was read
 abbrev pub Does : State → ℕ → Line → Reply → State → Type 0
 Does s n line.Silent reply next = Accepts s reply next
-Does s n (line.Field p g) reply next = KeepsField s n p g reply next
-Does s n (line.Datum d) reply next = Accepts (record s { d = Some d }) reply next
-Does s n line.Load reply next =
-    MatchOption s.field ⊥ (λ F. MatchOption s.d ⊥ (λ d. Answers (record s { loaded = true }) (loaded_text F d) reply next))
-Does s n (line.Form w) reply next = MatchOption s.field ⊥ (λ F. MatchOption s.d ⊥ (λ d. AnswersForm s F d w reply next))
+Does s n (line.Field p k coeffs g) reply next = KeepsField s n p coeffs g reply next
+Does s n (line.Datum d l) reply next = ReadsDatum s n (opened d l) reply next
+Does s n (line.Root v) reply next = InDatum s.datum (λ lines. ReadsDatum s n (with_root lines v) reply next)
+Does s n (line.Coroot v) reply next = InDatum s.datum (λ lines. ReadsDatum s n (with_coroot lines v) reply next)
+Does s n line.Load reply next = WithBoth s (λ F D. Answers (record s { loaded = true }) (loaded_text F D) reply next)
+Does s n (line.Form w) reply next = WithBoth s (λ F D. AnswersForm s F D.base.dim w reply next)
+Does s n line.Roots reply next = WithBoth s (λ F D. Answers s (roots_text D) reply next)
+
+-- the refusal of a line
+abbrev pub line_refusal : ℕ → LineFault → List ℕ
+line_refusal n why = refusal n (name_of why.name) why.numbers
 
 -- in the state, this is a reply to the line of the number, and this the state after it
 abbrev pub Replies : State → ℕ → List ℕ → Reply → State → Type 0
-Replies s n line reply next = MatchOption (reads s line) (Refuses s n refusal.Line reply next) (λ said. Does s n said reply next)
+Replies s n bytes reply next =
+    MatchResult (reads (wants_of s) (sizes_of s) none_listed bytes)
+    (λ said. Does s n said reply next) (λ why. Refuses s (line_refusal n (line_fault why)) reply next)
 
 -- the reply of the end, after n lines: before `load` it is a refusal
 abbrev pub RepliesAtEnd : State → ℕ → Reply → State → Type 0
 RepliesAtEnd s n reply next =
-    (reply ≡ (if s.loaded then record { kind = kind.Silent; bytes = [] } else record { kind = kind.Fatal; bytes = refusal_text n refusal.End }))
+    (reply ≡ (if s.loaded then record { kind = kind.Silent; bytes = [] } else record { kind = kind.Fatal; bytes = refusal n (name_of fault.End) [] }))
     × (next ≡ record s { ended = true })
 
 -- in a field within the limits, two words have the same reply exactly if a chain joins them

@@ -6,6 +6,7 @@ use Rattle.lie_session.specs.State.{State}
 use Rattle.lie_session.specs.Replies.{Replies, RepliesAtEnd}
 use Rattle.lie_session.specs.Output.{IsOutput, BeginsOutput}
 use Rattle.lie_session.specs.Runs.{Gave, GrewBy, input_limit}
+use Rattle.lie_session.specs.declared.mode.Mode.{Mode}
 use Rattle.lie_session.specs.declared.reply.Reply.{Reply}
 use Rattle.lie_session.specs.declared.status.Status.{Status}
 use Rattle.lie_session.specs.declared.status.Status.TheVariants.{Done, Refused, Usage, LoadRefused, ReadFault, WriteFault, NoMemory, TooLong}
@@ -55,15 +56,15 @@ AnsweredAtEnd s n next old before (Err WriteMemory) new now =
     ((new ≡ old) ⊎ ((reply : Reply) × RepliesAtEnd s n reply next × GrewByPrefix old reply.bytes new)) × (now ≡ before)
 
 -- what was written of the replies to an input that was read to its end, by the status
-abbrev pub Replied : Option (List ℕ) → List ℕ → Option (List ℕ) → Status → Type 0
-Replied old input new Done = GrewBy old new (λ out. IsOutput input out Done)
-Replied old input new Refused = GrewBy old new (λ out. IsOutput input out Refused)
-Replied old input new LoadRefused = GrewBy old new (λ out. IsOutput input out LoadRefused)
-Replied old input new WriteFault = GrewBy old new (BeginsOutput input)
-Replied old input new NoMemory = GrewBy old new (BeginsOutput input)
-Replied old input new Usage = ⊥
-Replied old input new ReadFault = ⊥
-Replied old input new TooLong = ⊥
+abbrev pub Replied : Mode → Option (List ℕ) → List ℕ → Option (List ℕ) → Status → Type 0
+Replied mode old input new Done = GrewBy old new (λ out. IsOutput mode input out Done)
+Replied mode old input new Refused = GrewBy old new (λ out. IsOutput mode input out Refused)
+Replied mode old input new LoadRefused = GrewBy old new (λ out. IsOutput mode input out LoadRefused)
+Replied mode old input new WriteFault = GrewBy old new (BeginsOutput mode input)
+Replied mode old input new NoMemory = GrewBy old new (BeginsOutput mode input)
+Replied mode old input new Usage = ⊥
+Replied mode old input new ReadFault = ⊥
+Replied mode old input new TooLong = ⊥
 
 -- the status after writing stopped
 abbrev pub stop_status : WriteStop → Status

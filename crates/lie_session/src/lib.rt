@@ -1,26 +1,26 @@
 //! A session over the lines of a script, and the run of the program.
 //!
 //! `Session::line` replies to one line, and `lie` to all lines of a source. Contracts cite
-//! `specs/Reading.antt` (what a line says), `specs/Replies.antt` (the reply to it),
-//! `specs/Output.antt` (the replies to a script) and `specs/Runs.antt` (the cause of each status).
-//! The reader of lines stands in `reading` alone. The crate stands on `lie_kit`, `lie_field`,
-//! `lie_letters` and `itoa`.
+//! `specs/State.antt` (what a session holds, and the line that it awaits), `specs/Replies.antt` (the
+//! reply to a line), `specs/Output.antt` (the replies to a script) and `specs/Runs.antt` (the cause of
+//! each status). What a line says is read by `lie_script`. The crate stands on `lie_kit`, `lie_field`,
+//! `lie_datum`, `lie_letters` and `lie_script`.
 #![tactic(auto)]
 
 mod cutting;
+mod datum;
 mod input;
+mod mode;
 mod output;
 mod product;
 mod program;
-mod reading;
-mod refusal;
 mod reply;
 mod session;
 mod status;
 mod texts;
 
+pub use mode::Mode;
 pub use program::lie;
-pub use reading::Line;
-pub use reply::{Kind, Reply, Text};
+pub use reply::{Kind, Reply};
 pub use session::Session;
 pub use status::Status;

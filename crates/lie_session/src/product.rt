@@ -2,7 +2,7 @@
 ghost use Rattle.std.specs.Prelude.{◌≡◌, ◌≤◌, ◌∷◌, []};
 ghost use Rattle.lie_letters.specs.Setting.{FrameData, dim};
 ghost use Rattle.lie_letters.specs.Spelled.{IsWordOver, JoinedSpelled};
-ghost use Rattle.lie_session.specs.Reading.{torus_frame};
+ghost use Rattle.lie_session.specs.Replies.{torus_frame};
 
 use lie_field::Field;
 use lie_letters::{Letter, Torus};

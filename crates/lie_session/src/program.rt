@@ -1,14 +1,15 @@
 //! The run of the program.
-ghost use Rattle.std.specs.Prelude.{◌≡◌, ◌≤◌, ◌↔◌, false, length, map};
+ghost use Rattle.std.specs.Prelude.{◌≡◌, ◌≢◌, ◌≤◌, ◌↔◌, false, length, map, Some, None, IfSome};
 ghost use Rattle.std.specs.String.{string_bytes};
-ghost use Rattle.lie_session.specs.Output.{OneOutput, FieldsAreSized};
+ghost use Rattle.lie_session.specs.Output.{OneOutput, FieldsAreSized, DataAreLoaded};
 ghost use Rattle.lie_session.specs.Replies.{RepliesTellWords};
-ghost use Rattle.lie_session.specs.Runs.{is_run, input_limit, Cause, ReadCounts, WriteCounts, Complete, Exceeds};
+ghost use Rattle.lie_session.specs.Runs.{mode_of, input_limit, Cause, CauseOf, ReadCounts, WriteCounts, Complete, Exceeds};
 ghost use Rattle.lie_session.specs.Steps.{stop_status, Answered, AnsweredAtEnd, Replied};
 ghost use Rattle.lie_session.specs.State.{ended_status};
 
 use crate::cutting::first_line;
 use crate::input::{ReadStop, read_all};
+use crate::mode::{Mode, asked};
 use crate::output::{WriteStop, write_all};
 use crate::session::Session;
 use crate::status::Status;
@@ -73,15 +74,16 @@ fn status(session: &Session) -> Status
 }
 
 /// Replies to an input that was read to its end.
-fn reply_all<K: Sink>(alloc: Global, input: &[u8], sink: &mut K) -> Status
+fn reply_all<K: Sink>(alloc: Global, mode: Mode, input: &[u8], sink: &mut K) -> Status
     requires { length input.now ≤ input_limit }
-    ensures replied { Replied (K.written sink.old) input.now (K.written sink.new) result }
+    ensures replied { Replied mode (K.written sink.old) input.now (K.written sink.new) result }
     ensures counted { WriteCounts (K.faults sink.old) (K.faults sink.new) result }
+    ensures checked { mode ≡ Mode.Check → result ≢ Status.Refused }
 {
     let mut session = Session::new(alloc);
     let mut rest = input;
     let mut number: u64 = 0;
-    'lines: while !rest.is_empty() && !session.ended() {
+    'lines: while !rest.is_empty() && !mode.rests(&session) {
         let (line, after) = first_line(rest);
         number += 1;
         if let Err(stop) = reply_to(alloc, &mut session, number, line, sink) {
@@ -89,7 +91,7 @@ fn reply_all<K: Sink>(alloc: Global, input: &[u8], sink: &mut K) -> Status
         }
         rest = after;
     }
-    if session.ended() {
+    if mode.rests(&session) {
         return status(&session);
     }
     if let Err(stop) = reply_to_end(alloc, &mut session, number, sink) {
@@ -98,28 +100,16 @@ fn reply_all<K: Sink>(alloc: Global, input: &[u8], sink: &mut K) -> Status
     status(&session)
 }
 
-/// Whether the words are `run`.
-fn is_run_word(words: &[String]) -> bool
-    ensures { result ≡ is_run (map string_bytes words.now) }
-{
-    match words {
-        [word] => word.as_bytes() == b"run".as_slice(),
-        _ => false,
-    }
-}
-
-/// Replies to the lines of the source, where the words are `run`.
-fn run<S: Source, K: Sink>(alloc: Global, words: &[String], source: &mut S, sink: &mut K) -> Status
-    ensures usage { (result ≡ Status.Usage) ↔ (is_run (map string_bytes words.now) ≡ false) }
-    ensures cause { Cause (S.left source.old) (S.left source.new) (K.written sink.old) (K.written sink.new) result }
+/// Replies to the lines of the source as the mode says.
+fn run<S: Source, K: Sink>(alloc: Global, mode: Mode, source: &mut S, sink: &mut K) -> Status
+    ensures asked { result ≢ Status.Usage }
+    ensures cause { Cause mode (S.left source.old) (S.left source.new) (K.written sink.old) (K.written sink.new) result }
     ensures read { ReadCounts (S.faults source.old) (S.faults source.new) result }
     ensures written { WriteCounts (K.faults sink.old) (K.faults sink.new) result }
+    ensures checked { mode ≡ Mode.Check → result ≢ Status.Refused }
 {
-    if !is_run_word(words) {
-        return Status::Usage;
-    }
     match read_all(alloc, source) {
-        Ok(input) => reply_all(alloc, input.as_slice(), sink),
+        Ok(input) => reply_all(alloc, mode, input.as_slice(), sink),
         Err(ReadStop::Fault) => Status::ReadFault,
         Err(ReadStop::NoMemory) => Status::NoMemory,
         Err(ReadStop::TooLong) => Status::TooLong,
@@ -127,27 +117,33 @@ fn run<S: Source, K: Sink>(alloc: Global, words: &[String], source: &mut S, sink
 }
 
 /// Runs the program: with the word `run`, the lines of the source are replied to in order, up to and
-/// with the first fatal reply. The words are those of the command line without the program's name.
-/// Want of memory comes whenever the allocator or the sink says so; no clause says when.
+/// with the first fatal reply; with the word `check`, up to and with the reply to `load`, and later
+/// lines are read to the end and not looked at. The words are those of the command line without the
+/// program's name. Want of memory comes whenever the allocator or the sink says so; no clause says when.
 pub fn lie<S: Source, K: Sink>(
     alloc: Global,
     words: &[String],
     source: &mut S,
     sink: &mut K,
 ) -> Status
-    ensures usage { (result ≡ Status.Usage) ↔ (is_run (map string_bytes words.now) ≡ false) }
-    ensures cause { Cause (S.left source.old) (S.left source.new) (K.written sink.old) (K.written sink.new) result }
+    ensures usage { (result ≡ Status.Usage) ↔ (mode_of (map string_bytes words.now) ≡ None) }
+    ensures cause { CauseOf (mode_of (map string_bytes words.now)) (S.left source.old) (S.left source.new) (K.written sink.old) (K.written sink.new) result }
     ensures read { ReadCounts (S.faults source.old) (S.faults source.new) result }
     ensures written { WriteCounts (K.faults sink.old) (K.faults sink.new) result }
+    ensures checked { mode_of (map string_bytes words.now) ≡ Some Mode.Check → result ≢ Status.Refused }
 
     // Where nothing fails, the output is written whole, unless the input is too long.
-    ensures complete { Complete (S.left source.old) (K.written sink.old) (K.written sink.new) (S.faults source.old) (S.faults source.new) (K.faults sink.old) (K.faults sink.new) result }
-    ensures exceeds { Exceeds (S.left source.old) (S.faults source.old) (S.faults source.new) result }
+    ensures complete { IfSome (mode_of (map string_bytes words.now)) (λ mode. Complete mode (S.left source.old) (K.written sink.old) (K.written sink.new) (S.faults source.old) (S.faults source.new) (K.faults sink.old) (K.faults sink.new) result) }
+    ensures exceeds { IfSome (mode_of (map string_bytes words.now)) (λ mode. Exceeds (S.left source.old) (S.faults source.old) (S.faults source.new) result) }
 
     // What the replies are worth: there is one output, and equal replies mean joined words.
     ensures one { OneOutput }
     ensures words { RepliesTellWords }
     ensures sized { FieldsAreSized }
+    ensures sound { DataAreLoaded }
 {
-    run(alloc, words, source, sink)
+    match asked(words) {
+        Some(mode) => run(alloc, mode, source, sink),
+        None => Status::Usage,
+    }
 }

@@ -1,19 +1,23 @@
 //! A session over the lines of a script.
-ghost use Rattle.std.specs.Prelude.{◌≡◌, ◌≤◌, true, false, [], IfOk, OnErr, MatchOption, IsTrue, ◌↔◌};
-ghost use Rattle.lie_session.specs.FieldLines.{IsNoField, IsFieldOf};
+ghost use Rattle.std.specs.Prelude.{◌≡◌, ◌≢◌, ◌≤◌, true, false, [], Some, pos, nat_abs, map, length, All, IfOk, OnErr};
+ghost use Rattle.std.specs.Option.{IsSome};
 ghost use Rattle.lie_letters.specs.Spelled.{IsWordOver};
-ghost use Rattle.lie_session.specs.Reading.{IsSound, torus_frame};
-ghost use Rattle.lie_session.specs.Replies.{Replies, RepliesAtEnd, Refuses, KeepsField, Does, FormTextOf};
-ghost use Rattle.lie_session.specs.State.{fresh};
+ghost use Rattle.lie_script.specs.Numbers.{is_within};
+ghost use Rattle.lie_script.specs.Texts.{refusal as refusal_text};
 ghost use Rattle.lie_session.specs.Changes.{Changes};
+ghost use Rattle.lie_session.specs.Faults.{field_refusal, datum_refusal};
+ghost use Rattle.lie_session.specs.Replies.{Replies, RepliesAtEnd, Refuses, KeepsField, KeepsDatum, ReadsDatum, Does, FormTextOf, torus_frame};
+ghost use Rattle.lie_session.specs.State.{fresh, whole, wants_of, sizes_of};
+ghost use Rattle.lie_session.specs.Ready.{Ready};
 
+use crate::datum::{DatumLines, DatumStage};
 use crate::product::product;
-use crate::reading::{Line, Stop, read_line};
-use crate::refusal::Refusal;
-use crate::reply::{Kind, Reply, Text};
-use crate::texts::{form_text, loaded_text, refused};
+use crate::reply::{Kind, Reply};
+use crate::texts::{form_text, loaded_text, roots_text};
+use lie_datum::{Datum, DatumFault, Side};
 use lie_field::{Field, FieldFault};
 use lie_letters::Word;
+use lie_script::{FaultName, Line, NoNames, Numbers, Sizes, Text, Wants, read_line, refusal};
 use std::alloc::{AllocError, Global};
 use std::marker::Model;
 
@@ -37,57 +41,54 @@ fn answer(bytes: Text) -> Reply
     }
 }
 
-fn lacks_memory(fault: &FieldFault) -> bool
-    ensures { IsTrue result ↔ (fault.now ≡ FieldFault.NoMemory) }
-{
-    matches!(fault, FieldFault::NoMemory)
-}
-
-/// The field of p elements with the generator g, where there is one within the limits.
-fn prime_field(alloc: Global, p: u64, g: u64) -> Result<Option<Field>, AllocError>
-    ensures { IfOk result (λ found. MatchOption found (IsNoField p g) (IsFieldOf p g)) }
-{
-    if p > 256 || g > 256 {
-        return Ok(None);
-    }
-    match Field::load(alloc, p as u32, 1, &[0], g as u32) {
-        Ok(field) => Ok(Some(field)),
-        Err(fault) if lacks_memory(&fault) => Err(AllocError),
-        Err(_) => Ok(None),
-    }
-}
-
 /// The text of the form of a word of torus letters.
-fn reply_to_form(alloc: Global, field: &Field, d: usize, w: &Word) -> Result<Text, AllocError>
-    requires small { (1 ≤ d) × (d ≤ 8) }
-    requires word { IsWordOver (torus_frame field.now d) w.now }
-    ensures { IfOk result (λ text. FormTextOf field.now d w.now text) }
+fn reply_to_form(
+    alloc: Global,
+    field: &Field,
+    datum: &Datum,
+    w: &Word,
+) -> Result<Text, AllocError>
+    requires { IsWordOver (torus_frame field.now datum.now.base.dim) w.now }
+    ensures { IfOk result (λ text. FormTextOf field.now datum.now.base.dim w.now text) }
 {
-    let product = product(field, d, w.letters());
-    Ok(Text::of(form_text(alloc, &product)?))
+    datum.loaded();
+    let product = product(field, datum.d(), w.letters());
+    form_text(alloc, &product)
+}
+
+/// The numbers of coefficients.
+fn residues(alloc: Global, coeffs: &Numbers) -> Result<Vec<u32>, AllocError>
+    requires { All (λ c. is_within (pos 0) (pos 1000000) c ≡ true) coeffs.now }
+    ensures values { IfOk result (λ v. v.items ≡ map nat_abs coeffs.now) }
+    ensures count { IfOk result (λ v. length v.items ≡ length coeffs.now) }
+{
+    let mut list = Vec::new(alloc);
+    'coeffs: for c in coeffs.list() {
+        list.push(c.unsigned_abs() as u32)?;
+    }
+    Ok(list)
 }
 
 /// A session over the lines of a script.
 #[derive(Drop)]
 pub struct Session {
     field: Option<Field>,
-    d: Option<usize>,
+    datum: DatumStage,
     loaded: bool,
     refusals: u64,
     ended: bool,
 }
 
 impl Model for Session {
-    ghost use Rattle.lie_session.specs.State.{State};
+    ghost use Rattle.std.specs.Prelude.{◌≡◌, true};
+    ghost use Rattle.std.specs.Option.{IsSome};
+    ghost use Rattle.lie_session.specs.State.{State, whole};
 
     ghost Value = { State };
 
-    ghost use Rattle.std.specs.Prelude.{◌≤◌};
-    ghost use Rattle.std.specs.Option.{ForSome};
+    ghost view = { λ s. record { field = s.field; datum = s.datum; loaded = s.loaded; refusals = s.refusals; ended = s.ended } };
 
-    ghost view = { λ s. record { field = s.field; d = s.d; loaded = s.loaded; refusals = s.refusals; ended = s.ended } };
-
-    ghost invariant = { λ s. ForSome s.d (λ d. (1 ≤ d) × (d ≤ 8)) };
+    ghost invariant = { λ s. s.loaded ≡ true → IsSome s.field × IsSome (whole s.datum) };
 }
 
 impl Session {
@@ -97,7 +98,7 @@ impl Session {
     {
         Session {
             field: None,
-            d: None,
+            datum: DatumStage::Missing,
             loaded: false,
             refusals: 0,
             ended: false,
@@ -125,11 +126,68 @@ impl Session {
         self.refusals
     }
 
-    /// Refuses a line: the reply is fatal before `load`, and counted after it.
-    fn refuse(&mut self, alloc: Global, number: u64, why: Refusal) -> Result<Reply, AllocError>
-        ensures { IfOk result (λ reply. Refuses self.old number why reply self.new) }
+    /// The kind of line that is awaited.
+    fn wants(&self) -> Wants
+        ensures { result ≡ wants_of self.now }
     {
-        let bytes = Text::of(refused(alloc, number, why)?);
+        if self.field.is_none() {
+            return Wants::Field;
+        }
+        match &self.datum {
+            DatumStage::Missing => Wants::Datum,
+            DatumStage::Reading(lines) => lines.wants(),
+            DatumStage::Whole(_) if self.loaded => Wants::Command,
+            DatumStage::Whole(_) => Wants::Load,
+        }
+    }
+
+    /// The sizes that a line is read with.
+    fn sizes(&self) -> Sizes
+        ensures { result ≡ sizes_of self.now }
+    {
+        let (d, l, m) = match &self.datum {
+            DatumStage::Missing => (0, 0, 0),
+            DatumStage::Reading(lines) => (lines.dim(), lines.rank(), 0),
+            DatumStage::Whole(datum) => (datum.d(), datum.l(), datum.m()),
+        };
+        let q = match &self.field {
+            Some(field) => field.q(),
+            None => 0,
+        };
+        Sizes {
+            d,
+            l,
+            m,
+            q,
+            dim: 0,
+            loaded: self.loaded,
+        }
+    }
+
+    /// The field and the datum.
+    fn both(&self) -> (&Field, &Datum)
+        requires field { IsSome self.now.field }
+        requires datum { IsSome (whole self.now.datum) }
+        ensures field { self.now.field ≡ Some result.0.now }
+        ensures datum { self.now.datum ≡ DatumStage.Whole result.1.now }
+    {
+        match (&self.field, &self.datum) {
+            (Some(field), DatumStage::Whole(datum)) => (field, datum),
+            _ => unreachable!(),
+        }
+    }
+
+    /// Refuses a line with this text: the reply is fatal before `load`, and counted after it.
+    fn refuse(
+        &mut self,
+        alloc: Global,
+        number: u64,
+        name: &[u8],
+        numbers: &[i128],
+    ) -> Result<Reply, AllocError>
+        ensures { IfOk result (λ reply. Refuses self.old (refusal_text number name.now numbers.now) reply self.new) }
+    {
+        let bytes = refusal(alloc, number, name, numbers)?;
         if self.loaded {
             self.refusals = self.refusals.saturating_add(1);
             return Ok(Reply {
@@ -144,60 +202,178 @@ impl Session {
         })
     }
 
-    /// Keeps the field of p elements with the generator g.
+    /// Refuses a `field` line for a fault of the field.
+    fn refuse_field(
+        &mut self,
+        alloc: Global,
+        number: u64,
+        fault: &FieldFault,
+    ) -> Result<Reply, AllocError>
+        ensures refuses { IfOk result (λ reply. Refuses self.old (field_refusal number fault.now) reply self.new) }
+        ensures named { IfOk result (λ reply. fault.now ≢ FieldFault.NoMemory) }
+    {
+        match fault {
+            FieldFault::NoMemory => Err(AllocError),
+            FieldFault::Size => self.refuse(alloc, number, b"size", &[]),
+            FieldFault::Coefficient(i) => self.refuse(alloc, number, b"coefficient", &[*i as i128]),
+            FieldFault::Element => self.refuse(alloc, number, b"element", &[]),
+            FieldFault::Generator(e) => self.refuse(alloc, number, b"generator", &[*e as i128]),
+        }
+    }
+
+    /// Refuses the last line of a datum with l simple roots for a fault of the datum.
+    fn refuse_datum(
+        &mut self,
+        alloc: Global,
+        number: u64,
+        l: usize,
+        fault: &DatumFault,
+    ) -> Result<Reply, AllocError>
+        requires { l ≤ 8 }
+        ensures refuses { IfOk result (λ reply. Refuses self.old (datum_refusal number l fault.now) reply self.new) }
+        ensures named { IfOk result (λ reply. fault.now ≢ DatumFault.NoMemory) }
+    {
+        match fault {
+            DatumFault::NoMemory => Err(AllocError),
+            DatumFault::Size => self.refuse(alloc, number, b"size", &[]),
+            DatumFault::Entry(Side::Roots, i, j) => {
+                self.refuse(alloc, number, b"entry root", &[*i as i128, *j as i128])
+            }
+            DatumFault::Entry(Side::Coroots, i, j) => {
+                self.refuse(alloc, number, b"entry coroot", &[*i as i128, *j as i128])
+            }
+            DatumFault::Pairing(i, value) => {
+                self.refuse(alloc, number, b"pairing", &[*i as i128, *value])
+            }
+            DatumFault::Positive(i, j) => {
+                self.refuse(alloc, number, b"positive", &[*i as i128, *j as i128])
+            }
+            DatumFault::Zero(i, j) => self.refuse(alloc, number, b"zero", &[*i as i128, *j as i128]),
+            DatumFault::Roots => self.refuse(alloc, number, b"roots", &[]),
+            DatumFault::Mixed(coefficients) => {
+                self.refuse(alloc, number, b"mixed", &coefficients[..l])
+            }
+            DatumFault::Repeated(j, k) => self.refuse(
+                alloc,
+                number,
+                b"repeated",
+                &[j.number() as i128, k.number() as i128],
+            ),
+        }
+    }
+
+    /// Keeps the field of the numbers of a line.
     fn keep_field(
         &mut self,
         alloc: Global,
         number: u64,
-        p: u64,
-        g: u64,
+        p: u32,
+        k: u32,
+        coeffs: &Numbers,
+        g: u32,
     ) -> Result<Reply, AllocError>
-        ensures { IfOk result (λ reply. KeepsField self.old number p g reply self.new) }
+        requires count { length coeffs.now ≡ k }
+        requires range { All (λ c. is_within (pos 0) (pos 1000000) c ≡ true) coeffs.now }
+        ensures { IfOk result (λ reply. KeepsField self.old number p coeffs.now g reply self.new) }
     {
-        match prime_field(alloc, p, g)? {
-            Some(field) => {
+        let coeffs = residues(alloc, coeffs)?;
+        match Field::load(alloc, p, k, &coeffs, g) {
+            Ok(field) => {
                 self.field = Some(field);
                 Ok(silent(alloc))
             }
-            None => self.refuse(alloc, number, Refusal::Field),
+            Err(fault) => self.refuse_field(alloc, number, &fault),
         }
+    }
+
+    /// Keeps the datum of whole lines.
+    fn keep_datum(
+        &mut self,
+        alloc: Global,
+        number: u64,
+        lines: &DatumLines,
+    ) -> Result<Reply, AllocError>
+        ensures { IfOk result (λ reply. KeepsDatum self.old number lines.now reply self.new) }
+    {
+        match lines.load(alloc) {
+            Ok(datum) => {
+                self.datum = DatumStage::Whole(datum);
+                Ok(silent(alloc))
+            }
+            Err(fault) => self.refuse_datum(alloc, number, lines.rank(), &fault),
+        }
+    }
+
+    /// Goes on with the lines of a datum, which a line has joined.
+    fn read_datum(
+        &mut self,
+        alloc: Global,
+        number: u64,
+        lines: DatumLines,
+    ) -> Result<Reply, AllocError>
+        requires { self.old.loaded ≡ false }
+        ensures { IfOk result (λ reply. ReadsDatum self.old number lines reply self.new) }
+    {
+        if lines.is_whole() {
+            return self.keep_datum(alloc, number, &lines);
+        }
+        self.datum = DatumStage::Reading(lines);
+        Ok(silent(alloc))
     }
 
     /// Does what a line says.
     fn obey(&mut self, alloc: Global, number: u64, line: Line) -> Result<Reply, AllocError>
-        requires { IsSound self.old.field self.old.d line }
+        requires { Ready self.old line }
         ensures { IfOk result (λ reply. Does self.old number line reply self.new) }
     {
         match line {
             Line::Silent => Ok(silent(alloc)),
-            Line::Field { p, g } => self.keep_field(alloc, number, p, g),
-            Line::Datum { d } => {
-                self.d = Some(d);
-                Ok(silent(alloc))
+            Line::Field { p, k, coeffs, g } => self.keep_field(alloc, number, p, k, &coeffs, g),
+            Line::Datum { d, l } => {
+                self.read_datum(alloc, number, DatumLines::opened(alloc, d, l))
             }
-            Line::Load => match (&self.field, self.d) {
-                (Some(field), Some(d)) => {
-                    let bytes = Text::of(loaded_text(alloc, field, d)?);
-                    self.loaded = true;
-                    Ok(answer(bytes))
-                }
-                _ => unreachable!(),
-            },
-            Line::Form(w) => match (&self.field, self.d) {
-                (Some(field), Some(d)) => Ok(answer(reply_to_form(alloc, field, d, &w)?)),
-                _ => unreachable!(),
-            },
+            Line::Root(v) => {
+                let lines = self.datum.with_root(alloc, v.list())?;
+                self.read_datum(alloc, number, lines)
+            }
+            Line::Coroot(v) => {
+                let lines = self.datum.with_coroot(alloc, v.list())?;
+                self.read_datum(alloc, number, lines)
+            }
+            Line::Load => {
+                let (field, datum) = self.both();
+                let text = loaded_text(alloc, field, datum)?;
+                self.loaded = true;
+                Ok(answer(text))
+            }
+            Line::Form(w) => {
+                let (field, datum) = self.both();
+                Ok(answer(reply_to_form(alloc, field, datum, &w)?))
+            }
+            Line::Roots => {
+                let (_field, datum) = self.both();
+                Ok(answer(roots_text(alloc, datum)?))
+            }
         }
     }
 
     /// Reads a line, and does what it says.
+    #[tactic(auto, using(crate::proofs::StateLemmas::setting_from, crate::proofs::StateLemmas::ready_said, crate::proofs::StateLemmas::replies_said, crate::proofs::StateLemmas::replies_fault))]
     fn read(&mut self, alloc: Global, number: u64, line: &[u8]) -> Result<Reply, AllocError>
         ensures { IfOk result (λ reply. Replies self.old number line.now reply self.new) }
     {
-        match read_line(alloc, self.field.as_ref(), self.d, self.loaded, line) {
+        let read = read_line(
+            alloc,
+            line,
+            self.wants(),
+            &self.sizes(),
+            &NoNames,
+            self.field.as_ref(),
+            self.datum.whole(),
+        )?;
+        match read {
             Ok(said) => self.obey(alloc, number, said),
-            Err(Stop::Misread) => self.refuse(alloc, number, Refusal::Line),
-            Err(Stop::NoMemory) => Err(AllocError),
+            Err(fault) => self.refuse(alloc, number, fault.name.text(), fault.numbers.list()),
         }
     }
 
@@ -227,10 +403,9 @@ impl Session {
         if self.loaded {
             return Ok(silent(alloc));
         }
-        let bytes = Text::of(refused(alloc, lines, Refusal::End)?);
         Ok(Reply {
             kind: Kind::Fatal,
-            bytes,
+            bytes: refusal(alloc, lines, FaultName::End.text(), &[])?,
         })
     }
 }

@@ -1,57 +1,84 @@
 //! The texts of replies.
-ghost use Rattle.std.specs.Prelude.{◌≡◌, ◌++◌, decimal, OnOk, IfOk};
-ghost use Rattle.lie_session.specs.Replies.{refusal_text, loaded_text as text_of_load, form_text as text_of_form};
+ghost use Rattle.std.specs.Prelude.{◌≡◌, ◌≤◌, ◌++◌, pos, length, OnOk, IfOk};
+ghost use Rattle.lie_datum.specs.RootList.{root_of};
+ghost use Rattle.lie_session.specs.Texts.{loaded_text as text_of_load, form_text as text_of_form, root_text, roots_text as text_of_roots};
 
-use crate::refusal::{Refusal, name};
-use itoa::Buffer;
+use lie_datum::Datum;
 use lie_field::Field;
 use lie_letters::Torus;
+use lie_script::{Text, put_number, put_spaced};
 use std::alloc::{AllocError, Global};
 
-/// Writes a number behind the text.
-fn put_number(out: &mut Vec<u8>, n: u64) -> Result<(), AllocError>
-    ensures { OnOk result (out.new.items ≡ out.old.items ++ decimal n) }
-{
-    let mut buffer = Buffer::new();
-    out.extend_from_slice(buffer.format(n).as_bytes())
-}
-
-/// `refused <line> <name>`.
-pub(crate) fn refused(alloc: Global, number: u64, refusal: Refusal) -> Result<Vec<u8>, AllocError>
-    ensures { IfOk result (λ v. v.items ≡ refusal_text number refusal) }
-{
-    let mut out = Vec::from_slice(alloc, b"refused ")?;
-    put_number(&mut out, number)?;
-    out.extend_from_slice(b" ")?;
-    out.extend_from_slice(name(refusal))?;
-    out.extend_from_slice(b"\n")?;
-    Ok(out)
-}
-
 /// `loaded <elements of the field> <coordinates> <roots> <dimension>`.
-pub(crate) fn loaded_text(alloc: Global, field: &Field, d: usize) -> Result<Vec<u8>, AllocError>
-    ensures { IfOk result (λ v. v.items ≡ text_of_load field.now d) }
+pub(crate) fn loaded_text(
+    alloc: Global,
+    field: &Field,
+    datum: &Datum,
+) -> Result<Text, AllocError>
+    ensures { IfOk result (λ text. text ≡ text_of_load field.now datum.now) }
 {
+    let d = datum.d() as i128;
     let mut out = Vec::from_slice(alloc, b"loaded ")?;
-    put_number(&mut out, field.q() as u64)?;
+    put_number(&mut out, field.q() as i128)?;
     out.extend_from_slice(b" ")?;
-    put_number(&mut out, d as u64)?;
-    out.extend_from_slice(b" 0 ")?;
-    put_number(&mut out, d as u64)?;
+    put_number(&mut out, d)?;
+    out.extend_from_slice(b" ")?;
+    put_number(&mut out, (2 * datum.m()) as i128)?;
+    out.extend_from_slice(b" ")?;
+    if datum.l() == 0 {
+        put_number(&mut out, d)?;
+    } else {
+        out.extend_from_slice(b"-")?;
+    }
     out.extend_from_slice(b"\n")?;
-    Ok(out)
+    Ok(Text::of(out))
 }
 
 /// The text of the form of a torus vector.
-pub(crate) fn form_text(alloc: Global, t: &Torus) -> Result<Vec<u8>, AllocError>
-    ensures { IfOk result (λ v. v.items ≡ text_of_form t.now) }
+pub(crate) fn form_text(alloc: Global, t: &Torus) -> Result<Text, AllocError>
+    ensures { IfOk result (λ text. text ≡ text_of_form t.now) }
 {
     let mut out = Vec::from_slice(alloc, b"- |")?;
     let entries = t.entries();
     for e in entries {
         out.extend_from_slice(b" ")?;
-        put_number(&mut out, e.number() as u64)?;
+        put_number(&mut out, e.number() as i128)?;
     }
     out.extend_from_slice(b" | - | -\n")?;
-    Ok(out)
+    Ok(Text::of(out))
+}
+
+/// Appends the line of a positive root, by its number.
+fn put_root(out: &mut Vec<u8>, datum: &Datum, k: usize) -> Result<(), AllocError>
+    requires first { 1 ≤ k }
+    requires last { k ≤ length datum.now.positive }
+    ensures { OnOk result (out.new.items ≡ out.old.items ++ root_text datum.now.base k (root_of datum.now (pos k))) }
+{
+    datum.loaded();
+    let _m = datum.m();
+    let Some(r) = datum.id(k as i32) else {
+        unreachable!()
+    };
+    put_number(out, k as i128)?;
+    put_spaced(out, &datum.coeffs(r)[..datum.l()])?;
+    out.extend_from_slice(b" |")?;
+    put_spaced(out, &datum.root(r)[..datum.d()])?;
+    out.extend_from_slice(b" |")?;
+    put_spaced(out, &datum.coroot(r)[..datum.d()])?;
+    out.extend_from_slice(b"\n")
+}
+
+/// `roots <m>`, and a line for each positive root.
+pub(crate) fn roots_text(alloc: Global, datum: &Datum) -> Result<Text, AllocError>
+    ensures { IfOk result (λ text. text ≡ text_of_roots datum.now) }
+{
+    let mut out = Vec::from_slice(alloc, b"roots ")?;
+    put_number(&mut out, datum.m() as i128)?;
+    out.extend_from_slice(b"\n")?;
+    let mut k = 0;
+    'roots: while k < datum.m() {
+        k += 1;
+        put_root(&mut out, datum, k)?;
+    }
+    Ok(Text::of(out))
 }

@@ -12,3 +12,14 @@ pub const TORUS: &str = "field 5 1 0 2\ndatum 1 0\nload\n";
 
 /// The same, and the form of a word of two letters.
 pub const PRODUCT: &str = "field 5 1 0 2\ndatum 1 0\nload\nform h(2) h(3)\n";
+
+/// SL2 over the field of five elements, up to `load`.
+pub const SL2: &str = "field 5 1 0 2\ndatum 1 1\nroot 2\ncoroot 1\nload\n";
+
+/// SL3 over the field of three elements, up to `load`.
+pub const SL3: &str =
+    "field 3 1 0 2\ndatum 2 2\nroot 2 -1\nroot -1 2\ncoroot 1 0\ncoroot 0 1\nload\n";
+
+/// The simply connected group of type B_2 over the field of three elements, up to `load`.
+pub const B2: &str =
+    "field 3 1 0 2\ndatum 2 2\nroot 2 -1\nroot -2 2\ncoroot 1 0\ncoroot 0 1\nload\n";

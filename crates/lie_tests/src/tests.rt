@@ -1,7 +1,8 @@
 //! The program on scripts in memory.
-use crate::{PRODUCT, TORUS};
+use crate::{B2, PRODUCT, SL2, SL3, TORUS};
 use lie_kit::{MemSink, MemSource};
-use lie_session::{Kind, Session, Status, Text, lie};
+use lie_script::Text;
+use lie_session::{Kind, Session, Status, lie};
 use std::alloc::Global;
 use std::test::Fail;
 
@@ -37,45 +38,141 @@ impl Run<'_> {
     }
 }
 
+// Whether a script after another has this output and status.
+fn runs(
+    alloc: Global,
+    run: Run<'_>,
+    front: &str,
+    script: &str,
+    output: &str,
+    status: Status,
+) -> Result<bool, Fail> {
+    let mut input = Vec::from_slice(alloc, front.as_bytes())?;
+    input.extend_from_slice(script.as_bytes())?;
+    let (ended, sink) = run.over(alloc, input)?;
+    Ok(ended == status && sink.bytes() == output.as_bytes())
+}
+
 #[test]
-fn worked_rows(rt: HostRuntime) -> Result<(), Fail> {
+fn torus_scripts(rt: HostRuntime) -> Result<(), Fail> {
     // the script, its output, its status
     let cases = [
         (PRODUCT, "loaded 5 1 0 1\n- | 1 | - | -\n", Status::Done),
         ("", "refused 0 end\n", Status::LoadRefused),
         (
             "field 5 1 0 2\ndatum 1 0\nload\nform h(0)\nform 1",
-            "loaded 5 1 0 1\nrefused 4 line\n- | 1 | - | -\n",
+            "loaded 5 1 0 1\nrefused 4 torus 6\n- | 1 | - | -\n",
             Status::Refused,
         ),
         (
-            "# two coordinates\r\n\tfield 07 1 0 3 \r\n\ndatum 02 0\nload\nform h(2,3) 1 h(4,6)\n",
+            "# two coordinates\r\n\tfield 07 1 0 3 \r\n\ndatum 02 0\nload\nform h(2,3) 1 h(4,6)",
             "loaded 7 2 0 2\n- | 1 4 | - | -\n",
             Status::Done,
         ),
-        (
-            "field 2 1 0 1\ndatum 1 0\n\n",
-            "refused 3 end\n",
-            Status::LoadRefused,
-        ),
-        ("form 1\nload\n", "refused 1 line\n", Status::LoadRefused),
-        (
-            "field 5 1 0 2\ndatum 1 0\nload x\nload\n",
-            "refused 3 line\n",
-            Status::LoadRefused,
-        ),
-        (
-            "\n\nfield 4 1 0 3\n",
-            "refused 3 field\n",
-            Status::LoadRefused,
-        ),
+        ("field 2 1 0 1\ndatum 1 0\n\n", "refused 3 end\n", Status::LoadRefused),
+        ("form 1\nload\n", "refused 1 unloaded\n", Status::LoadRefused),
+        ("field 5 1 0 2\ndatum 1 0\nload x\nload\n", "refused 3 fields 1\n", Status::LoadRefused),
+        ("field 5 1 0 2\ndatum 1 0\nload\nroots\n", "loaded 5 1 0 1\nroots 0\n", Status::Done),
     ];
     for (script, output, status) in cases {
-        let input = Vec::from_slice(rt.alloc(), script.as_bytes())?;
-        let (ended, sink) = PLAIN.over(rt.alloc(), input)?;
-        assert_eq!(rt; ended, status, "at {script}");
-        assert_eq!(rt; sink.bytes(), output.as_bytes(), "at {script}");
+        assert!(rt; runs(rt.alloc(), PLAIN, "", script, output, status)?, "at {script}");
     }
+    Ok(())
+}
+
+#[test]
+fn fields(rt: HostRuntime) -> Result<(), Fail> {
+    // the first line, the output, the status
+    let cases = [
+        ("field 3 2 2 2 3", "loaded 9 1 0 1\n- | 4 | - | -\n", Status::Done),
+        ("field 3 2 1 0 3", "refused 1 generator 4\n", Status::LoadRefused),
+        ("field 4 1 0 3", "refused 1 generator 2\n", Status::LoadRefused),
+        ("field 5 1 0 0", "refused 1 element\n", Status::LoadRefused),
+        ("field 257 1 0 3", "refused 1 size\n", Status::LoadRefused),
+        ("field 3 0 2", "refused 1 size\n", Status::LoadRefused),
+        ("field 5 1 7 2", "refused 1 coefficient 0\n", Status::LoadRefused),
+        ("field 5 1 x", "refused 1 number 11\n", Status::LoadRefused),
+    ];
+    for (field, output, status) in cases {
+        let rest = "\ndatum 1 0\nload\nform h(3) h(3)\n";
+        assert!(rt; runs(rt.alloc(), PLAIN, field, rest, output, status)?, "at {field}");
+    }
+    Ok(())
+}
+
+#[test]
+fn lists_of_roots(rt: HostRuntime) -> Result<(), Fail> {
+    // the script up to `load`, the output with `roots`
+    let cases = [
+        (SL3, "loaded 3 2 6 -\nroots 3\n1 1 0 | 2 -1 | 1 0\n2 0 1 | -1 2 | 0 1\n3 1 1 | 1 1 | 1 1\n"),
+        (
+            B2,
+            "loaded 3 2 8 -\nroots 4\n1 1 0 | 2 -1 | 1 0\n2 0 1 | -2 2 | 0 1\n3 1 1 | 0 1 | 1 2\n4 2 1 | 2 0 | 1 1\n",
+        ),
+    ];
+    for (front, output) in cases {
+        assert!(rt; runs(rt.alloc(), PLAIN, front, "roots\n", output, Status::Done)?, "at {front}");
+    }
+    Ok(())
+}
+
+#[test]
+fn refused_data(rt: HostRuntime) -> Result<(), Fail> {
+    // the lines after `field 5 1 0 2`, the output
+    let cases = [
+        ("datum 1 1\nroot 1\ncoroot 1\n", "refused 4 pairing 1 1\n"),
+        ("datum 2 2\nroot 2 -2\nroot -2 2\ncoroot 1 0\ncoroot 0 1\n", "refused 6 roots\n"),
+        ("datum 2 2\nroot 2 1\nroot 1 2\ncoroot 1 0\ncoroot 0 1\n", "refused 6 positive 1 2\n"),
+        ("datum 2 2\nroot 2 0\nroot -1 2\ncoroot 1 0\ncoroot 0 1\n", "refused 6 zero 1 2\n"),
+        ("datum 1 1\nroot 101\ncoroot 1\nform 1\n", "refused 4 entry root 1 1\n"),
+        ("datum 1 1\nroot 2\ncoroot -101\n", "refused 4 entry coroot 1 1\n"),
+        ("datum 1 1\nroot 2\n", "refused 3 end\n"),
+        ("datum 9 0\nload\n", "refused 2 size\n"),
+        ("datum 1 1\n# a root\n\nroot 2 0\ncoroot 1\n", "refused 5 fields 2\n"),
+        ("datum 1 1\ncoroot 1\nroot 2\n", "refused 3 order\n"),
+        ("datum 1 1\nroot 2\nroots\ncoroot 1\n", "refused 4 unloaded\n"),
+    ];
+    for (lines, output) in cases {
+        assert!(rt; runs(rt.alloc(), PLAIN, "field 5 1 0 2\n", lines, output, Status::LoadRefused)?, "at {lines}");
+    }
+    Ok(())
+}
+
+#[test]
+fn refused_commands(rt: HostRuntime) -> Result<(), Fail> {
+    // line 6 after SL2, and what it gives after the reply to `load`
+    let cases = [
+        ("form h(0)", "loaded 5 1 2 -\nrefused 6 torus 6\n", Status::Refused),
+        ("form y1", "loaded 5 1 2 -\nrefused 6 letter 6\n", Status::Refused),
+        ("form", "loaded 5 1 2 -\nrefused 6 fields 0\n", Status::Refused),
+        ("fomr 1", "loaded 5 1 2 -\nrefused 6 command 1\n", Status::Refused),
+        ("load\nform 1", "loaded 5 1 2 -\nrefused 6 order\n- | 1 | - | -\n", Status::Refused),
+        ("# form y1\nform h(4) h(4)", "loaded 5 1 2 -\n- | 1 | - | -\n", Status::Done),
+    ];
+    for (line, output, status) in cases {
+        assert!(rt; runs(rt.alloc(), PLAIN, SL2, line, output, status)?, "at {line}");
+    }
+    Ok(())
+}
+
+#[test]
+fn checks(rt: HostRuntime) -> Result<(), Fail> {
+    let check = Run {
+        words: &["check"],
+        ..PLAIN
+    };
+    // the run, the script, its output, its status
+    let cases = [
+        (check, "form h(0)\nfomr\n", "loaded 5 1 0 1\n", Status::Done),
+        (Run { pulls: &[2], piece: 29, ..check }, "form 1\n", "", Status::ReadFault),
+        (Run { pushes: &[1], ..check }, "form 1\n", "", Status::WriteFault),
+        (Run { words: &["check", "check"], ..PLAIN }, "form 1\n", "", Status::Usage),
+    ];
+    for (run, script, output, status) in cases {
+        assert!(rt; runs(rt.alloc(), run, TORUS, script, output, status)?, "at {script}");
+    }
+    let cut = "field 5 1 0 2\ndatum 1 0\n";
+    assert!(rt; runs(rt.alloc(), check, cut, "", "refused 2 end\n", Status::LoadRefused)?);
     Ok(())
 }
 
@@ -83,83 +180,16 @@ fn worked_rows(rt: HostRuntime) -> Result<(), Fail> {
 fn failing_streams(rt: HostRuntime) -> Result<(), Fail> {
     // the run over the first worked row, its output, its status
     let cases = [
-        (
-            Run { piece: 1, ..PLAIN },
-            "loaded 5 1 0 1\n- | 1 | - | -\n",
-            Status::Done,
-        ),
-        (
-            Run {
-                pulls: &[1],
-                ..PLAIN
-            },
-            "",
-            Status::ReadFault,
-        ),
-        (
-            Run {
-                pulls: &[2],
-                ..PLAIN
-            },
-            "",
-            Status::ReadFault,
-        ),
-        (
-            Run {
-                pushes: &[1],
-                ..PLAIN
-            },
-            "",
-            Status::WriteFault,
-        ),
-        (
-            Run {
-                pushes: &[2],
-                ..PLAIN
-            },
-            "loaded 5 1 0 1\n",
-            Status::WriteFault,
-        ),
-        (
-            Run {
-                words: &["demo", "0"],
-                ..PLAIN
-            },
-            "",
-            Status::Usage,
-        ),
-        (
-            Run {
-                words: &["demo", "01"],
-                ..PLAIN
-            },
-            "",
-            Status::Usage,
-        ),
-        (
-            Run {
-                words: &["walk"],
-                ..PLAIN
-            },
-            "",
-            Status::Usage,
-        ),
-        (
-            Run {
-                words: &[],
-                ..PLAIN
-            },
-            "",
-            Status::Usage,
-        ),
-        (
-            Run {
-                words: &["run", "run"],
-                ..PLAIN
-            },
-            "",
-            Status::Usage,
-        ),
+        (Run { piece: 1, ..PLAIN }, "loaded 5 1 0 1\n- | 1 | - | -\n", Status::Done),
+        (Run { pulls: &[1], ..PLAIN }, "", Status::ReadFault),
+        (Run { pulls: &[2], ..PLAIN }, "", Status::ReadFault),
+        (Run { pushes: &[1], ..PLAIN }, "", Status::WriteFault),
+        (Run { pushes: &[2], ..PLAIN }, "loaded 5 1 0 1\n", Status::WriteFault),
+        (Run { words: &["demo", "0"], ..PLAIN }, "", Status::Usage),
+        (Run { words: &["demo", "01"], ..PLAIN }, "", Status::Usage),
+        (Run { words: &["walk"], ..PLAIN }, "", Status::Usage),
+        (Run { words: &[], ..PLAIN }, "", Status::Usage),
+        (Run { words: &["run", "run"], ..PLAIN }, "", Status::Usage),
     ];
     for (run, output, status) in cases {
         let input = Vec::from_slice(rt.alloc(), PRODUCT.as_bytes())?;
@@ -172,105 +202,23 @@ fn failing_streams(rt: HostRuntime) -> Result<(), Fail> {
 
 #[test]
 fn the_limit_of_the_input(rt: HostRuntime) -> Result<(), Fail> {
-    // the number of bytes, the output, the status
+    // the word, the number of bytes, the output, the status
     let cases = [
-        (16_777_216, "loaded 5 1 0 1\n", Status::Done),
-        (16_777_217, "", Status::TooLong),
+        ("run", 16_777_216, "loaded 5 1 0 1\n", Status::Done),
+        ("run", 16_777_217, "", Status::TooLong),
+        ("check", 16_777_217, "", Status::TooLong),
     ];
-    for (count, output, status) in cases {
+    for (word, count, output, status) in cases {
         let mut input = Vec::from_slice(rt.alloc(), TORUS.as_bytes())?;
         input.resize(count, b'\n')?;
-        let (ended, sink) = PLAIN.over(rt.alloc(), input)?;
+        let words = [word];
+        let run = Run {
+            words: &words,
+            ..PLAIN
+        };
+        let (ended, sink) = run.over(rt.alloc(), input)?;
         assert_eq!(rt; ended, status, "at {count}");
         assert_eq!(rt; sink.bytes(), output.as_bytes(), "at {count}");
-    }
-    Ok(())
-}
-
-/// The kind of the reply to a line after the others.
-fn replied(alloc: Global, before: &[&[u8]], line: &[u8]) -> Result<Option<Kind>, Fail> {
-    let mut session = Session::new(alloc);
-    let mut number: u64 = 1;
-    for earlier in before {
-        if session.ended() {
-            return Ok(None);
-        }
-        let _reply = session.line(alloc, number, earlier)?;
-        number = number.saturating_add(1);
-    }
-    if session.ended() {
-        return Ok(None);
-    }
-    Ok(Some(session.line(alloc, number, line)?.kind))
-}
-
-#[test]
-fn numbers_of_a_field(rt: HostRuntime) -> Result<(), Fail> {
-    // the line, and whether it is accepted
-    let cases = [
-        ("field 5 1 0 2", true),
-        ("field 2 1 0 1", true),
-        ("field 251 1 0 6", true),
-        ("\tfield  000000000000000005 1 0 3\t", true),
-        ("field 257 1 0 3", false),
-        ("field 1 1 0 0", false),
-        ("field 5 1 0 0", false),
-        ("field 5 1 0 5", false),
-        ("field 5 1 0 4", false),
-        ("field 8 1 0 2", false),
-        ("field 9 1 0 2", false),
-        ("field 999999999999999999 1 0 2", false),
-    ];
-    for (line, accepted) in cases {
-        let kind = replied(rt.alloc(), &[], line.as_bytes())?;
-        let wanted = if accepted { Kind::Silent } else { Kind::Fatal };
-        assert_eq!(rt; kind, Some(wanted), "at {line}");
-    }
-    Ok(())
-}
-
-#[test]
-fn lines_that_are_not_awaited(rt: HostRuntime) -> Result<(), Fail> {
-    let field: &[u8] = b"field 7 1 0 3";
-    let datum: &[u8] = b"datum 2 0";
-    let load: &[u8] = b"load";
-    // the lines before, a line, the kind of its reply
-    let early = [
-        (0, "field 5 01 0 2", Kind::Fatal),
-        (0, "field 5 1 00 2", Kind::Fatal),
-        (0, "field 0000000000000000005 1 0 2", Kind::Fatal),
-        (0, "field 5 1 0", Kind::Fatal),
-        (0, "fields 5 1 0 2", Kind::Fatal),
-        (1, "datum 8 0", Kind::Silent),
-        (1, "datum 9 0", Kind::Fatal),
-        (1, "datum 0 0", Kind::Fatal),
-        (1, "datum 1 1", Kind::Fatal),
-        (1, "datum 1 00", Kind::Fatal),
-        (1, "field 5 1 0 2", Kind::Fatal),
-        (2, " load ", Kind::Answer),
-        (2, "load load", Kind::Fatal),
-        (2, "form 1", Kind::Fatal),
-        (3, "form 1 1", Kind::Answer),
-        (3, "form h(6,000000000000000001)", Kind::Answer),
-        (3, "form", Kind::Refused),
-        (3, "form 01", Kind::Refused),
-        (3, "form h(7,1)", Kind::Refused),
-        (3, "form h(0,1)", Kind::Refused),
-        (3, "form h(1)", Kind::Refused),
-        (3, "form h(1,1,1)", Kind::Refused),
-        (3, "form h()", Kind::Refused),
-        (3, "form h(1,1", Kind::Refused),
-        (3, "form h(1,1)x", Kind::Refused),
-        (3, "form h(1, 1)", Kind::Refused),
-        (3, "form h(1,0000000000000000001)", Kind::Refused),
-        (3, "load", Kind::Refused),
-        (3, " # load", Kind::Silent),
-    ];
-    let lines = [field, datum, load];
-    for (count, line, kind) in early {
-        assert!(rt; count <= lines.len());
-        let replied = replied(rt.alloc(), &lines[..count], line.as_bytes())?;
-        assert_eq!(rt; replied, Some(kind), "at {line}");
     }
     Ok(())
 }
@@ -292,17 +240,13 @@ fn the_limits_of_a_line(rt: HostRuntime) -> Result<(), Fail> {
         }
         script.extend_from_slice(end.as_bytes())?;
         let (status, _sink) = PLAIN.over(rt.alloc(), script)?;
-        let wanted = if accepted {
-            Status::Done
-        } else {
-            Status::Refused
-        };
+        let wanted = if accepted { Status::Done } else { Status::Refused };
         assert_eq!(rt; status, wanted, "at {count}");
     }
     // the number of letters `h(2)`, the output behind that of `load`
     let words = [
         (4096, "loaded 5 1 0 1\n- | 1 | - | -\n"),
-        (4097, "loaded 5 1 0 1\nrefused 4 line\n"),
+        (4097, "loaded 5 1 0 1\nrefused 4 letters 4097\n"),
     ];
     for (count, output) in words {
         let mut script = Vec::from_slice(rt.alloc(), TORUS.as_bytes())?;

@@ -1,5 +1,5 @@
 use Rattle.std.proofs.Common.{refl, sym, ◌∙◌}
-use Rattle.lie_session.specs.Reading.{torus_frame}
+use Rattle.lie_session.specs.Replies.{torus_frame}
 use Rattle.lie_session.proofs.ProductLemmas.{entries_at, entries_joined, joined_more}
 use Rattle.lie_session.proofs.product.product.Goals as goal
 

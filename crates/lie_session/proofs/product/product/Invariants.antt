@@ -1,7 +1,7 @@
 use Rattle.std.proofs.Common.{◌∷◌, [], take}
 use Rattle.lie_letters.specs.declared.letter.Letter.TheVariants.{H}
 use Rattle.lie_letters.specs.Spelled.{JoinedSpelled}
-use Rattle.lie_session.specs.Reading.{torus_frame}
+use Rattle.lie_session.specs.Replies.{torus_frame}
 use Rattle.lie_session.proofs.product.product.Given as goal
 
 abbrev pub invariant-letters : goal.invariant-letters

@@ -1,24 +1,36 @@
-use Rattle.lie_session.proofs.CauseLemmas.{complete_from, exceeds_from}
-use Rattle.lie_session.proofs.StatusLemmas.{fields_are_sized}
+use Rattle.std.proofs.Common.{sym, ◌∙◌}
+use Rattle.lie_session.proofs.CauseLemmas.{complete_from}
+use Rattle.lie_session.proofs.StatusLemmas.{fields_are_sized, data_are_loaded}
 use Rattle.lie_session.proofs.OneOutputLemmas.{one_output}
 use Rattle.lie_session.proofs.TextLemmas.{replies_tell_words}
 use Rattle.lie_session.proofs.program.lie.Goals as goal
 
-pub returns-clause-complete : goal.returns-clause-complete
-returns-clause-complete g c =
-    complete_from (g.S.Source.left c.args.source.now) (g.S.Source.left c.run.new.source) (g.K.Sink.written c.args.sink.now) (g.K.Sink.written c.run.new.sink)
-    _ _ _ _ c.run.result c.run.ensures.read c.run.ensures.written c.run.ensures.cause
+pub returns-in-Some-clause-complete : goal.returns-in-Some-clause-complete
+returns-in-Some-clause-complete g c =
+    rw (sym c.asked.ensures ∙ c.in-Some.is)
+    (complete_from c.in-Some.mode (g.S.Source.left c.args.source.now) (g.S.Source.left c.run.new.source) (g.K.Sink.written c.args.sink.now) (g.K.Sink.written c.run.new.sink)
+    _ _ _ _ c.run.result c.run.ensures.read c.run.ensures.written c.run.ensures.cause)
 
-pub returns-clause-exceeds : goal.returns-clause-exceeds
-returns-clause-exceeds g c =
-    exceeds_from (g.S.Source.left c.args.source.now) (g.S.Source.left c.run.new.source) (g.K.Sink.written c.args.sink.now) (g.K.Sink.written c.run.new.sink)
-    _ _ c.run.result c.run.ensures.read c.run.ensures.cause
+pub returns-in-Some-clause-one : goal.returns-in-Some-clause-one
+returns-in-Some-clause-one g c = one_output
 
-pub returns-clause-sized : goal.returns-clause-sized
-returns-clause-sized g c = fields_are_sized
+pub returns-in-Some-clause-words : goal.returns-in-Some-clause-words
+returns-in-Some-clause-words g c = replies_tell_words
 
-pub returns-clause-one : goal.returns-clause-one
-returns-clause-one g c = one_output
+pub returns-in-Some-clause-sized : goal.returns-in-Some-clause-sized
+returns-in-Some-clause-sized g c = fields_are_sized
 
-pub returns-clause-words : goal.returns-clause-words
-returns-clause-words g c = replies_tell_words
+pub returns-in-Some-clause-sound : goal.returns-in-Some-clause-sound
+returns-in-Some-clause-sound g c = data_are_loaded
+
+pub returns-in-None-clause-one : goal.returns-in-None-clause-one
+returns-in-None-clause-one g c = one_output
+
+pub returns-in-None-clause-words : goal.returns-in-None-clause-words
+returns-in-None-clause-words g c = replies_tell_words
+
+pub returns-in-None-clause-sized : goal.returns-in-None-clause-sized
+returns-in-None-clause-sized g c = fields_are_sized
+
+pub returns-in-None-clause-sound : goal.returns-in-None-clause-sound
+returns-in-None-clause-sound g c = data_are_loaded

@@ -10,6 +10,6 @@ returns c =
     let same : entries ≡ t = c.entries-entries.ensures.entries in
     let past : length entries ≤ c.loop-e.e-index = search rules in
     let all : take c.loop-e.e-index entries ≡ t = take_all c.loop-e.e-index entries past ∙ same in
-    c.in_ok-extend_from_slice-2.ensures.items
+    c.of.ensures ∙ c.in_ok-extend_from_slice-2.ensures.items
     ∙ ap (λ z. z ++ (32 ∷ 124 ∷ 32 ∷ 45 ∷ 32 ∷ 124 ∷ 32 ∷ 45 ∷ 10 ∷ []))
     (c.loop-e.invariant ∙ ap (λ z. (45 ∷ 32 ∷ 124 ∷ []) ++ spaced z) all ∙ ap (λ z. (45 ∷ 32 ∷ 124 ∷ []) ++ z) (spaced_all t (omega (arith, c.entries-entries.ensures.one_or_more))))

@@ -1,0 +1,141 @@
+-- What holds of the lines that pass their checks.
+use Rattle.std.proofs.Common.{◌≡◌, ℕ, ◌+◌, true, List, [], ◌∷◌, length, ℤ, pos, nat_abs, ◌∙◌, arith, Ok, refl, sym, subst, ◌≤◌}
+use Rattle.std.specs.Prelude.{◌&&◌, ◌||◌, not, nat_eq, nat_le, IfOk}
+use Rattle.std.specs.List.{AllByRecursion}
+use Rattle.std.proofs.lemmas.List.{length-take}
+use Rattle.std.proofs.lemmas.List.Elements.{All-take, All-from_recursion}
+use Rattle.std.proofs.lemmas.Bool.{eqb-true}
+use Rattle.std.proofs.lemmas.Result.{IfOk-at_ok}
+use Rattle.lie_letters.specs.Spelled.{IsWordOver}
+use Rattle.lie_script.specs.Accepted.{Fits, AcceptedLinesFit}
+use Rattle.lie_script.specs.Checks.{found, none_at}
+use Rattle.lie_script.specs.Fields.{Span, fields_of, foreign_from, begins_with}
+use Rattle.lie_script.specs.Kinds.{field_of, field_line, datum_line, vector, root_line, coroot_line, bare_line, word_line}
+use Rattle.lie_script.specs.Names.{Listed}
+use Rattle.lie_script.specs.Letters.{word}
+use Rattle.lie_script.specs.Numbers.{is_within, allows, integer, number, numbers, natural}
+use Rattle.lie_script.specs.Reading.{keyword_of, is_command, begins, own_line, spoken, said, reads}
+use Rattle.lie_script.specs.declared.allowed.Allowed.{Allowed}
+use Rattle.lie_script.specs.declared.keyword.Keyword.{Keyword}
+use Rattle.lie_script.specs.declared.keyword.Keyword.TheVariants as keyword
+use Rattle.lie_script.specs.declared.sizes.Sizes.{Sizes}
+use Rattle.lie_script.specs.declared.sizes.Wants.{Wants}
+use Rattle.lie_script.specs.declared.sizes.Wants.TheVariants as wants
+use Rattle.lie_script.proofs.Steps.{bind-all, unless-all, if-all, each-ok, IfOk-from}
+use Rattle.lie_script.proofs.Elements.{word-over}
+
+-- a number that was read is allowed
+number-allowed : (allowed : Allowed) (field : Span) → IfOk (number allowed field) (λ n. allows allowed n ≡ true)
+unfolding number
+number-allowed allowed field = bind-all _ (integer field) _ (λ n is. unless-all _ (allows allowed n) _ (Ok n) (λ passes. passes))
+
+-- as many numbers are read as fields are there, and all are allowed
+numbers-ok : (allowed : Allowed) (fields : List Span) (v : List ℤ) → numbers allowed fields ≡ Ok v → (length v ≡ length fields) × AllByRecursion (λ n. allows allowed n ≡ true) v
+unfolding numbers
+numbers-ok allowed fields v h = each-ok (λ n. allows allowed n ≡ true) (number allowed) (λ field n is. IfOk-at_ok (λ k. allows allowed k ≡ true) is (number-allowed allowed field)) fields v h
+
+-- a vector has as many numbers as its count says
+vector-long : (count : ℕ) (allowed : Allowed) (fields : List Span) → IfOk (vector count allowed fields) (λ v. length v ≡ count)
+unfolding vector
+vector-long count allowed fields =
+    unless-all (λ v. length v ≡ count) (nat_eq (length fields) count) _ (numbers allowed fields) (λ counted. IfOk-from (λ v. length v ≡ count) (numbers allowed fields) (λ v is. (numbers-ok allowed fields v is).0 ∙ eqb-true (length fields) count counted))
+
+-- the kind of line at which a word is awaited
+abbrev awaited_by : Keyword → Wants
+awaited_by keyword.Field = wants.Field
+awaited_by keyword.Datum = wants.Datum
+awaited_by keyword.Root = wants.Root
+awaited_by keyword.Coroot = wants.Coroot
+awaited_by keyword.Load = wants.Load
+awaited_by keyword.Form = wants.Command
+awaited_by keyword.Roots = wants.Command
+
+-- a word that begins a line was awaited
+begun : (word : Keyword) (awaited : Wants) → begins word awaited ≡ true → awaited ≡ awaited_by word
+begun keyword.Field wants.Field due = refl
+begun keyword.Field wants.Datum due = absurd cc
+begun keyword.Field wants.Root due = absurd cc
+begun keyword.Field wants.Coroot due = absurd cc
+begun keyword.Field wants.Load due = absurd cc
+begun keyword.Field wants.Command due = absurd cc
+begun keyword.Datum wants.Field due = absurd cc
+begun keyword.Datum wants.Datum due = refl
+begun keyword.Datum wants.Root due = absurd cc
+begun keyword.Datum wants.Coroot due = absurd cc
+begun keyword.Datum wants.Load due = absurd cc
+begun keyword.Datum wants.Command due = absurd cc
+begun keyword.Root wants.Field due = absurd cc
+begun keyword.Root wants.Datum due = absurd cc
+begun keyword.Root wants.Root due = refl
+begun keyword.Root wants.Coroot due = absurd cc
+begun keyword.Root wants.Load due = absurd cc
+begun keyword.Root wants.Command due = absurd cc
+begun keyword.Coroot wants.Field due = absurd cc
+begun keyword.Coroot wants.Datum due = absurd cc
+begun keyword.Coroot wants.Root due = absurd cc
+begun keyword.Coroot wants.Coroot due = refl
+begun keyword.Coroot wants.Load due = absurd cc
+begun keyword.Coroot wants.Command due = absurd cc
+begun keyword.Load wants.Field due = absurd cc
+begun keyword.Load wants.Datum due = absurd cc
+begun keyword.Load wants.Root due = absurd cc
+begun keyword.Load wants.Coroot due = absurd cc
+begun keyword.Load wants.Load due = refl
+begun keyword.Load wants.Command due = absurd cc
+begun keyword.Form wants.Field due = absurd cc
+begun keyword.Form wants.Datum due = absurd cc
+begun keyword.Form wants.Root due = absurd cc
+begun keyword.Form wants.Coroot due = absurd cc
+begun keyword.Form wants.Load due = absurd cc
+begun keyword.Form wants.Command due = refl
+begun keyword.Roots wants.Field due = absurd cc
+begun keyword.Roots wants.Datum due = absurd cc
+begun keyword.Roots wants.Root due = absurd cc
+begun keyword.Roots wants.Coroot due = absurd cc
+begun keyword.Roots wants.Load due = absurd cc
+begun keyword.Roots wants.Command due = refl
+
+field_of-fits : (sizes : Sizes) (fields : List Span) (all : List ℤ) → AllByRecursion (λ n. is_within (pos 0) (pos 1000000) n ≡ true) all → IfOk (field_of fields all) (Fits wants.Field sizes)
+unfolding field_of
+field_of-fits sizes fields [] h = tt
+field_of-fits sizes fields (p ∷ []) h = tt
+field_of-fits sizes fields (p ∷ k ∷ more) h =
+    unless-all (Fits wants.Field sizes) (nat_eq (length more) (nat_abs k + 1)) _ _ (λ counted. (refl, omega (arith, length-take (nat_abs k) more, eqb-true (length more) (nat_abs k + 1) counted), All-take (λ n. is_within (pos 0) (pos 1000000) n ≡ true) (nat_abs k) more (All-from_recursion (λ n. is_within (pos 0) (pos 1000000) n ≡ true) more h.1.1)))
+
+sized-is : (d l : ℕ) → (nat_le 1 d && nat_le d 8 && nat_le l d) ≡ true → (1 ≤ d) × (d ≤ 8) × (l ≤ d)
+sized-is d l sized = grind (arith, sized)
+
+datum_line-fits : (sizes : Sizes) (fields : List Span) → IfOk (datum_line fields) (Fits wants.Datum sizes)
+datum_line-fits sizes [] = tt
+datum_line-fits sizes (d ∷ []) = tt
+datum_line-fits sizes (d ∷ l ∷ []) =
+    bind-all (Fits wants.Datum sizes) (natural 0 1000000 d) _ (λ d is. bind-all (Fits wants.Datum sizes) (natural 0 1000000 l) _ (λ l is. unless-all (Fits wants.Datum sizes) (nat_le 1 d && nat_le d 8 && nat_le l d) _ _ (λ sized. let parts = sized-is d l sized in (refl, parts.0, parts.1, parts.2))))
+datum_line-fits sizes (d ∷ l ∷ more ∷ fields) = tt
+
+own_line-fits : (sizes : Sizes) (listed : Listed) (word : Keyword) (fields : List Span) → IfOk (own_line sizes listed word fields) (Fits (awaited_by word) sizes)
+unfolding own_line field_line root_line coroot_line bare_line word_line
+own_line-fits sizes listed keyword.Field fields =
+    bind-all (Fits wants.Field sizes) (numbers _ fields) _ (λ all is. field_of-fits sizes fields all (numbers-ok _ fields all is).1)
+own_line-fits sizes listed keyword.Datum fields = datum_line-fits sizes fields
+own_line-fits sizes listed keyword.Root fields = bind-all (Fits wants.Root sizes) (vector sizes.d _ fields) _ (λ v is. (refl, IfOk-at_ok (λ v. length v ≡ sizes.d) is (vector-long sizes.d _ fields)))
+own_line-fits sizes listed keyword.Coroot fields = bind-all (Fits wants.Coroot sizes) (vector sizes.d _ fields) _ (λ v is. (refl, IfOk-at_ok (λ v. length v ≡ sizes.d) is (vector-long sizes.d _ fields)))
+own_line-fits sizes listed keyword.Load fields = unless-all (Fits wants.Load sizes) (nat_eq (length fields) 0) _ _ (λ counted. refl)
+own_line-fits sizes listed keyword.Form fields =
+    bind-all (Fits wants.Command sizes) (word_line sizes fields) _ (λ w is. (refl, λ f q_is d_is. IfOk-at_ok (IsWordOver f) is (unless-all (IsWordOver f) (nat_le 1 (length fields)) _ (word sizes fields) (λ some. word-over f sizes fields q_is d_is))))
+own_line-fits sizes listed keyword.Roots fields = unless-all (Fits wants.Command sizes) (nat_eq (length fields) 0) _ _ (λ counted. refl)
+
+said-fits : (awaited : Wants) (sizes : Sizes) (listed : Listed) (bytes : List ℕ) (fields : List Span) → IfOk (said awaited sizes listed bytes fields) (Fits awaited sizes)
+unfolding spoken
+said-fits awaited sizes listed bytes [] = tt
+said-fits awaited sizes listed bytes (first ∷ fields) =
+    let P = Fits awaited sizes in
+    if-all P (begins_with 35 first.bytes) _ _ tt
+    (bind-all P (none_at (foreign_from 1 bytes) _) _ (λ plain is. bind-all P (found (keyword_of first.bytes) _) _ (λ word is.
+    unless-all P (not (is_command word) || sizes.loaded) _ _ (λ loaded. unless-all P (begins word awaited) _ _ (λ due.
+    subst (λ w. IfOk (own_line sizes listed word fields) (Fits w sizes)) (sym (begun word awaited due)) (own_line-fits sizes listed word fields))))))
+
+-- every line that passes its checks fits
+pub accepted-fits : AcceptedLinesFit
+unfolding reads
+accepted-fits awaited sizes listed bytes =
+    unless-all (Fits awaited sizes) (nat_le (length bytes) 65536) _ _ (λ short. said-fits awaited sizes listed bytes (fields_of bytes))

@@ -1,0 +1,9 @@
+pub mod Cutting
+pub mod Digits
+pub mod Loops
+pub mod Pieces
+pub mod Steps
+pub mod Elements
+pub mod AcceptedLemmas
+pub mod CallerLemmas
+pub mod WorkedExamples

@@ -1,0 +1,90 @@
+-- The definition of reading at work on lines of the language.
+use Rattle.std.specs.Prelude.{◌≡◌, refl, ℕ, true, false, pos, negsuc, List, [], ◌∷◌, ◌++◌, map, codes, Ok, Err, Result}
+use Rattle.lie_letters.specs.declared.letter.Letter.TheVariants.{H}
+use Rattle.lie_script.specs.Fields.{fields_of}
+use Rattle.lie_script.specs.Numbers.{number_of, integer, number, numbers, natural}
+use Rattle.lie_script.specs.Letters.{spelled, unit, spelled_list, units, torus_letter, letter, few_letters, letters, word}
+use Rattle.lie_script.specs.Kinds.{field_of, field_line, vector, root_line, coroot_line, bare_line, word_line}
+use Rattle.lie_script.specs.Reading.{keyword_of, own_line, spoken, reads}
+use Rattle.lie_script.specs.declared.faults.FaultName.TheVariants as fault
+use Rattle.lie_script.specs.declared.faults.Fault.{Fault}
+use Rattle.lie_script.specs.declared.faults.Fault.TheVariants.{Bare, At}
+use Rattle.lie_script.specs.declared.line.Line.{Line}
+use Rattle.lie_script.specs.declared.line.Line.TheVariants as line
+use Rattle.lie_script.specs.declared.sizes.Sizes.{Sizes}
+use Rattle.lie_script.specs.declared.sizes.Wants.{Wants}
+use Rattle.lie_script.specs.declared.sizes.Wants.TheVariants as wants
+
+-- lines, each with what it says
+abbrev Table : Type 0
+Table = List (List ℕ × Result Line Fault)
+
+-- each line of the table is read so
+abbrev IsRead : Wants → Sizes → Table → Type 0
+IsRead awaited sizes table = map (λ row. reads awaited sizes [] row.0) table ≡ map (λ row. row.1) table
+
+abbrev no_sizes : Sizes
+no_sizes = record { d = 0; l = 0; m = 0; q = 0; dim = 0; loaded = false }
+
+-- where the field is awaited
+abbrev first_lines : Table
+first_lines =
+    (codes "field 3 2 2 2 3", Ok (line.Field 3 2 (pos 2 ∷ pos 2 ∷ []) 3)) ∷
+    (codes "field 0005 1 0 2", Ok (line.Field 5 1 (pos 0 ∷ []) 2)) ∷
+    (codes "field 5 1 x", Err (At fault.Number 11)) ∷
+    (codes "field 1 1000001", Err (At fault.Range 9)) ∷
+    (codes "field 3 2 2 3", Err (At fault.Fields 4)) ∷
+    (codes "field 3 0 2", Ok (line.Field 3 0 [] 2)) ∷
+    (codes "field 5 - 0 2", Err (At fault.Number 9)) ∷
+    (32 ∷ 9 ∷ [], Ok line.Silent) ∷
+    (9 ∷ 35 ∷ 128 ∷ [], Ok line.Silent) ∷
+    (codes "roots", Err (Bare fault.Unloaded)) ∷
+    (codes "root 1", Err (Bare fault.Order)) ∷
+    (codes "row 1", Err (At fault.Command 1)) ∷
+    []
+
+first_lines_read : IsRead wants.Field no_sizes first_lines
+unfolding reads fields_of spoken keyword_of own_line field_of field_line vector root_line coroot_line bare_line word_line word letters few_letters letter torus_letter spelled unit spelled_list units number_of integer number numbers natural
+first_lines_read = refl
+
+-- where a root of rank 1 is awaited
+abbrev root_lines : Table
+root_lines =
+    (codes "root 101", Ok (line.Root (pos 101 ∷ []))) ∷
+    (codes "root -000000000000000007", Ok (line.Root (negsuc 6 ∷ []))) ∷
+    (codes "root 1234567890123456789", Err (At fault.Range 6)) ∷
+    (codes "root +1", Err (At fault.Number 6)) ∷
+    (codes "coroot 1", Err (Bare fault.Order)) ∷
+    (codes "root 1 0", Err (At fault.Fields 2)) ∷
+    []
+
+root_lines_read : IsRead wants.Root (record no_sizes { d = 1; l = 1; q = 5 }) root_lines
+unfolding reads fields_of spoken keyword_of own_line field_of field_line vector root_line coroot_line bare_line word_line word letters few_letters letter torus_letter spelled unit spelled_list units number_of integer number numbers natural
+root_lines_read = refl
+
+-- commands over the field of five, with two coordinates
+abbrev commands : Table
+commands =
+    (codes "form h(2,3)  1 h(4,1)", Ok (line.Form (H (2 ∷ 3 ∷ []) ∷ H (4 ∷ 1 ∷ []) ∷ []))) ∷
+    (codes "form 1", Ok (line.Form [])) ∷
+    (codes "form h(0,1)", Err (At fault.Torus 6)) ∷
+    (codes "form 1 h(9,0)", Err (At fault.Value 8)) ∷
+    (codes "form h(0,9)", Err (At fault.Torus 6)) ∷
+    (codes "form h(2)", Err (At fault.Torus 6)) ∷
+    (codes "form h(1,1) h(2,)", Err (At fault.Letter 13)) ∷
+    (codes "form y1", Err (At fault.Letter 6)) ∷
+    (codes "form x1(1)", Err (At fault.Letter 6)) ∷
+    (codes "form n1", Err (At fault.Letter 6)) ∷
+    (codes "form 01", Err (At fault.Letter 6)) ∷
+    (codes "form h(1,0000000000000000001)", Err (At fault.Letter 6)) ∷
+    (codes "form", Err (At fault.Fields 0)) ∷
+    (codes " fomr 1", Err (At fault.Command 2)) ∷
+    (codes "form " ++ 128 ∷ [], Err (At fault.Byte 6)) ∷
+    (codes "roots", Ok line.Roots) ∷
+    (codes "roots 1", Err (At fault.Fields 1)) ∷
+    (codes "load", Err (Bare fault.Order)) ∷
+    []
+
+commands_read : IsRead wants.Command (record { d = 2; l = 1; m = 1; q = 5; dim = 0; loaded = true }) commands
+unfolding reads fields_of spoken keyword_of own_line field_of field_line vector root_line coroot_line bare_line word_line word letters few_letters letter torus_letter spelled unit spelled_list units number_of integer number numbers natural
+commands_read = refl

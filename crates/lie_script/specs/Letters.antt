@@ -1,0 +1,77 @@
+-- Letters and words.
+-- Own.
+--
+--   h( a , .. , a )   a torus element: d elements that aren't 0, by their numbers
+--   1                 as a field of a word: no letter
+use Rattle.std.specs.Prelude.{ℕ, Bool, not, nat_eq, nat_lt, nat_le, if◌then◌else◌, List, [], ◌∷◌, length, filter, codes, bytes_eq, Result, Ok, Err}
+use Rattle.std.specs.List.{slice_split}
+use Rattle.lie_letters.specs.declared.letter.Letter.{Letter}
+use Rattle.lie_letters.specs.declared.letter.Letter.TheVariants.{H}
+use Rattle.lie_script.specs.Fields.{Span, behind_first, before_last}
+use Rattle.lie_script.specs.Checks.{◌>>=◌, unless, found, each}
+use Rattle.lie_script.specs.Numbers.{number_of}
+use Rattle.lie_script.specs.declared.faults.FaultName.TheVariants as fault
+use Rattle.lie_script.specs.declared.faults.Fault.{Fault}
+use Rattle.lie_script.specs.declared.faults.Fault.TheVariants.{At}
+use Rattle.lie_script.specs.declared.sizes.Sizes.{Sizes}
+
+abbrev pub is_comma : ℕ → Bool
+is_comma b = nat_eq b 44
+
+-- a number inside a letter
+unfoldable pub spelled : ℕ → List ℕ → Result ℕ Fault
+spelled column bytes = found (number_of bytes) (At fault.Letter column)
+
+-- numbers with commas between
+unfoldable pub spelled_list : ℕ → List ℕ → Result (List ℕ) Fault
+spelled_list column bytes = each (spelled column) (slice_split is_comma bytes)
+
+-- an element that isn't 0
+unfoldable pub unit : ℕ → ℕ → ℕ → Result ℕ Fault
+unit q column a = do
+  element ← unless (nat_lt a q) (At fault.Value column)
+  nonzero ← unless (not (nat_eq a 0)) (At fault.Torus column)
+  Ok a
+
+-- elements that aren't 0, from left to right
+unfoldable pub units : ℕ → ℕ → List ℕ → Result (List ℕ) Fault
+units q column numbers = each (unit q column) numbers
+
+-- `h` was read: d elements in parentheses
+unfoldable pub torus_letter : Sizes → ℕ → List ℕ → Result Letter Fault
+torus_letter sizes column bytes = do
+  opened ← found (behind_first 40 bytes) (At fault.Letter column)
+  inner ← found (before_last 41 opened) (At fault.Letter column)
+  numbers ← spelled_list column inner
+  sized ← unless (nat_eq (length numbers) sizes.d) (At fault.Torus column)
+  t ← units sizes.q column numbers
+  Ok (H t)
+
+-- the kind of a letter is told by its first byte
+abbrev pub letter_from : Sizes → ℕ → List ℕ → Result Letter Fault
+letter_from sizes column [] = Err (At fault.Letter column)
+letter_from sizes column (b ∷ bytes) =
+    if nat_eq b 104 then torus_letter sizes column bytes
+    else Err (At fault.Letter column)
+
+-- a letter
+unfoldable pub letter : Sizes → Span → Result Letter Fault
+letter sizes field = letter_from sizes field.column field.bytes
+
+-- the field `1` is no letter
+abbrev pub is_letter : Span → Bool
+is_letter field = not (bytes_eq field.bytes (codes "1"))
+
+-- at most 4,096 letters
+unfoldable pub few_letters : List Span → Result (Unit {0}) Fault
+few_letters fields = unless (nat_le (length (filter is_letter fields)) 4096) (At fault.Letters (length (filter is_letter fields)))
+
+-- letters from left to right
+unfoldable pub letters : Sizes → List Span → Result (List Letter) Fault
+letters sizes fields = each (letter sizes) (filter is_letter fields)
+
+-- a word, whose letters are counted first
+unfoldable pub word : Sizes → List Span → Result (List Letter) Fault
+word sizes fields = do
+  few ← few_letters fields
+  letters sizes fields

@@ -1,0 +1,11 @@
+pub mod Fields
+pub mod LineFields
+pub mod Checks
+pub mod Numbers
+pub mod Letters
+pub mod Names
+pub mod Kinds
+pub mod Reading
+pub mod Setting
+pub mod Texts
+pub mod Accepted

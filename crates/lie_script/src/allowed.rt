@@ -1,0 +1,8 @@
+//! Which numbers a field may spell.
+
+/// The numbers that are allowed; each kind has its fault for the others.
+#[derive(Clone, Copy, Debug, Drop, PartialEq, Eq)]
+pub enum Allowed {
+    /// From the first to the second; else `range`.
+    Within(i128, i128),
+}

@@ -1,0 +1,67 @@
+//! The words that lines begin with.
+ghost use Rattle.std.specs.Prelude.{◌≡◌};
+ghost use Rattle.lie_script.specs.Reading.{keyword_of as keyword_read, is_command as commands, begins as begins_line};
+
+use crate::sizes::Wants;
+
+/// The first word of a line.
+#[derive(Clone, Copy, Debug, Drop, PartialEq, Eq)]
+pub enum Keyword {
+    Field,
+    Datum,
+    Root,
+    Coroot,
+    Load,
+    Form,
+    Roots,
+}
+
+impl Keyword {
+    /// Whether it is a command of a loaded group.
+    pub(crate) fn is_command(self) -> bool
+        ensures { result ≡ commands self }
+    {
+        match self {
+            Keyword::Form | Keyword::Roots => true,
+            _ => false,
+        }
+    }
+
+    /// Whether it is awaited.
+    pub(crate) fn begins(self, wants: Wants) -> bool
+        ensures { result ≡ begins_line self wants }
+    {
+        match wants {
+            Wants::Field => self == Keyword::Field,
+            Wants::Datum => self == Keyword::Datum,
+            Wants::Root => self == Keyword::Root,
+            Wants::Coroot => self == Keyword::Coroot,
+            Wants::Load => self == Keyword::Load,
+            Wants::Command => self.is_command(),
+        }
+    }
+}
+
+/// The word that the bytes spell.
+#[tactic(auto, unfolding(crate::specs::Reading::keyword_of))]
+pub(crate) fn keyword_of(bytes: &[u8]) -> Option<Keyword>
+    ensures { result ≡ keyword_read bytes.now }
+{
+    if bytes == b"field".as_slice() {
+        Some(Keyword::Field)
+    } else if bytes == b"datum".as_slice() {
+        Some(Keyword::Datum)
+    } else if bytes == b"root".as_slice() {
+        Some(Keyword::Root)
+    } else if bytes == b"coroot".as_slice() {
+        Some(Keyword::Coroot)
+    } else if bytes == b"load".as_slice() {
+        Some(Keyword::Load)
+    } else if bytes == b"form".as_slice() {
+        Some(Keyword::Form)
+    } else if bytes == b"roots".as_slice() {
+        Some(Keyword::Roots)
+    } else {
+        None
+    }
+}

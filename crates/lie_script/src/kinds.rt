@@ -1,0 +1,154 @@
+//! The kinds of lines.
+ghost use Rattle.std.specs.Prelude.{◌≡◌, ◌∷◌, [], pos, true, All};
+ghost use Rattle.lie_script.specs.Checks.{Gives};
+ghost use Rattle.lie_script.specs.Kinds.{field_of as field_of_read, field_line as field_line_read, datum_line as datum_line_read, vector as vector_read, root_line as root_line_read, coroot_line as coroot_line_read, bare_line as bare_line_read, word_line as word_line_read};
+ghost use Rattle.lie_script.specs.LineFields.{span, spans};
+ghost use Rattle.lie_script.specs.Numbers.{is_within};
+ghost use Rattle.lie_script.specs.Setting.{HasField, HasDatum};
+
+use crate::allowed::Allowed;
+use crate::faults::{Fault, FaultName, Stop};
+use crate::fields::LineField;
+use crate::kept::Numbers;
+use crate::letters::word;
+use crate::line::Line;
+use crate::numbers::{natural, numbers};
+use crate::sizes::Sizes;
+use lie_datum::Datum;
+use lie_field::Field;
+use lie_letters::Word;
+use std::alloc::Global;
+
+/// The fault of a line with another number of fields than its kind asks for.
+fn miscounted(count: usize) -> Fault
+    ensures { result ≡ Fault.At FaultName.Fields count }
+{
+    Fault::At(FaultName::Fields, count)
+}
+
+/// p and k, and as many coefficients as k says before g.
+#[tactic(auto, unfolding(crate::specs::Kinds::field_of))]
+fn field_of(alloc: Global, fields: &[LineField<'_>], all: &[i128]) -> Result<Line, Stop>
+    requires { All (λ n. is_within (pos 0) (pos 1000000) n ≡ true) all.now }
+    ensures { Gives (λ line. line) result (field_of_read (spans fields.now) all.now) }
+{
+    let [p, k, more @ ..] = all else {
+        return Err(Stop::Faulty(miscounted(fields.len())));
+    };
+    let count = k.unsigned_abs() as usize;
+    if more.len() != count + 1 {
+        return Err(Stop::Faulty(miscounted(fields.len())));
+    }
+    let coeffs = Vec::from_slice(alloc, &more[..count])?;
+    Ok(Line::Field {
+        p: p.unsigned_abs() as u32,
+        k: count as u32,
+        coeffs: Numbers::of(coeffs),
+        g: more[count].unsigned_abs() as u32,
+    })
+}
+
+/// `field p k c_0 .. c_(k-1) g`: the numbers are read before they are counted.
+#[tactic(auto, unfolding(crate::specs::Kinds::field_line))]
+pub(crate) fn field_line(alloc: Global, fields: &[LineField<'_>]) -> Result<Line, Stop>
+    ensures { Gives (λ line. line) result (field_line_read (spans fields.now)) }
+{
+    let all = numbers(alloc, Allowed::Within(0, 1_000_000), fields)?;
+    field_of(alloc, fields, &all)
+}
+
+/// `datum d l`.
+pub(crate) fn datum_line(fields: &[LineField<'_>]) -> Result<Line, Fault>
+    ensures { result ≡ datum_line_read (spans fields.now) }
+{
+    match fields {
+        [d, l] => datum_of(d, l),
+        _ => Err(miscounted(fields.len())),
+    }
+}
+
+/// The fields of `datum`.
+fn datum_of(d: &LineField<'_>, l: &LineField<'_>) -> Result<Line, Fault>
+    ensures { result ≡ datum_line_read (span d.now ∷ span l.now ∷ []) }
+{
+    let d = natural(0, 1_000_000, d)?;
+    let l = natural(0, 1_000_000, l)?;
+    if d < 1 || d > 8 || l > d {
+        return Err(Fault::Bare(FaultName::Size));
+    }
+    Ok(Line::Datum { d, l })
+}
+
+/// As many numbers as the count says.
+#[tactic(auto, unfolding(crate::specs::Kinds::vector))]
+fn vector(
+    alloc: Global,
+    count: usize,
+    allowed: Allowed,
+    fields: &[LineField<'_>],
+) -> Result<Numbers, Stop>
+    ensures { Gives (λ list. list) result (vector_read count allowed (spans fields.now)) }
+{
+    if fields.len() != count {
+        return Err(Stop::Faulty(miscounted(fields.len())));
+    }
+    Ok(Numbers::of(numbers(alloc, allowed, fields)?))
+}
+
+/// Every number of at most 18 digits.
+const EIGHTEEN_DIGITS: Allowed = Allowed::Within(-999_999_999_999_999_999, 999_999_999_999_999_999);
+
+/// `root v_1 .. v_d`.
+#[tactic(auto, unfolding(crate::specs::Kinds::root_line))]
+pub(crate) fn root_line(
+    alloc: Global,
+    sizes: &Sizes,
+    fields: &[LineField<'_>],
+) -> Result<Line, Stop>
+    ensures { Gives (λ line. line) result (root_line_read sizes.now (spans fields.now)) }
+{
+    Ok(Line::Root(vector(alloc, sizes.d, EIGHTEEN_DIGITS, fields)?))
+}
+
+/// `coroot v_1 .. v_d`.
+#[tactic(auto, unfolding(crate::specs::Kinds::coroot_line))]
+pub(crate) fn coroot_line(
+    alloc: Global,
+    sizes: &Sizes,
+    fields: &[LineField<'_>],
+) -> Result<Line, Stop>
+    ensures { Gives (λ line. line) result (coroot_line_read sizes.now (spans fields.now)) }
+{
+    Ok(Line::Coroot(vector(alloc, sizes.d, EIGHTEEN_DIGITS, fields)?))
+}
+
+/// A line without fields.
+#[tactic(auto, unfolding(crate::specs::Kinds::bare_line))]
+pub(crate) fn bare_line(said: Line, fields: &[LineField<'_>]) -> Result<Line, Fault>
+    ensures { result ≡ bare_line_read said (spans fields.now) }
+{
+    if fields.is_empty() {
+        Ok(said)
+    } else {
+        Err(miscounted(fields.len()))
+    }
+}
+
+/// One or more fields, which are a word.
+#[tactic(auto, unfolding(crate::specs::Kinds::word_line))]
+pub(crate) fn word_line(
+    alloc: Global,
+    sizes: &Sizes,
+    field: &Field,
+    datum: &Datum,
+    fields: &[LineField<'_>],
+) -> Result<Word, Stop>
+    requires field { HasField sizes.now field.now }
+    requires datum { HasDatum sizes.now datum.now }
+    ensures { Gives (λ word. word) result (word_line_read sizes.now (spans fields.now)) }
+{
+    if fields.is_empty() {
+        return Err(Stop::Faulty(miscounted(0)));
+    }
+    word(alloc, sizes, field, datum, fields)
+}

@@ -1,0 +1,38 @@
+//! Lines of a script: what a line says or its first fault, and the texts of numbers and refusals.
+//!
+//! `read_line` makes a `Line`, and is the only call that looks at the bytes of one. Contracts cite
+//! `specs/Reading.antt` (a line as its word and fields, and the order of the checks),
+//! `specs/Kinds.antt` (the checks of each kind of line), `specs/Letters.antt` (words),
+//! `specs/Setting.antt` (the field and the datum that a line is read with) and `specs/Texts.antt`.
+//! A later word of the language is a case of `Keyword`, of `Line` and of `own_line` there. The crate
+//! stands on `lie_field`, `lie_datum`, `lie_letters` and `itoa`.
+#![tactic(auto)]
+
+mod allowed;
+mod faults;
+mod fields;
+mod kept;
+mod keyword;
+mod kinds;
+mod laws;
+mod letters;
+mod line;
+mod names;
+mod numbers;
+mod reading;
+mod sizes;
+mod texts;
+
+pub use allowed::Allowed;
+pub use faults::{Fault, FaultName, LineFault};
+pub use kept::{Numbers, Text};
+pub use keyword::Keyword;
+pub use laws::accepted_lines_fit;
+pub use line::Line;
+pub use names::{Names, NoNames};
+pub use reading::read_line;
+pub use sizes::{Sizes, Wants};
+pub use texts::{put_number, put_spaced, refusal};
+
+#[cfg(test)]
+mod tests;

@@ -1,0 +1,27 @@
+//! What a line says.
+use crate::kept::Numbers;
+use lie_letters::Word;
+
+/// A line that passed the checks of reading, with the values that its fields spell.
+#[derive(Drop)]
+pub enum Line {
+    /// Only blanks, or a comment.
+    Silent,
+    /// The characteristic, the degree, the coefficients c_0 .. c_(k-1), and the number of a generator.
+    Field {
+        p: u32,
+        k: u32,
+        coeffs: Numbers,
+        g: u32,
+    },
+    /// The number of coordinates, and that of simple roots.
+    Datum {
+        d: usize,
+        l: usize,
+    },
+    Root(Numbers),
+    Coroot(Numbers),
+    Load,
+    Form(Word),
+    Roots,
+}

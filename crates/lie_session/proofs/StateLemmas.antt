@@ -1,0 +1,173 @@
+-- What is awaited tells what a session holds.
+use Rattle.std.proofs.Common.{◌≡◌, ℕ, ◌≤◌, Bool, true, false, cond, Option, Some, None, refl, sym, ap, ◌∙◌, subst, arith, Result, Ok, Err, length, List}
+use Rattle.std.specs.Prelude.{⊤, ◌||◌, nat_lt, MatchResult, IfOk, ℤ}
+use Rattle.std.specs.Option.{IfSome, IsSome, IsSomeAnd}
+use Rattle.std.proofs.lemmas.Result.{IfOk-at_ok}
+use Rattle.std.proofs.lemmas.Bool.{false≢true}
+use Rattle.lie_datum.specs.RootList.{Roots}
+use Rattle.lie_field.specs.FiniteField.{FiniteField}
+use Rattle.lie_field.specs.Quotient.{order}
+use Rattle.lie_letters.specs.Setting.{FrameData, dim}
+use Rattle.lie_letters.specs.Spelled.{IsWordOver}
+use Rattle.lie_letters.specs.declared.letter.Letter.{Letter}
+use Rattle.lie_script.specs.Accepted.{Fits}
+use Rattle.lie_script.specs.Names.{none_listed}
+use Rattle.lie_script.specs.Reading.{reads}
+use Rattle.lie_script.specs.Setting.{HasField, HasDatum, awaits_both, IsSetting, answer_of}
+use Rattle.lie_script.specs.Texts.{line_fault}
+use Rattle.lie_script.specs.declared.faults.Fault.{Fault}
+use Rattle.lie_script.specs.declared.faults.LineFault.{LineFault}
+use Rattle.lie_script.specs.declared.line.Line.{Line}
+use Rattle.lie_script.specs.declared.line.Line.TheVariants as line
+use Rattle.lie_script.specs.declared.sizes.Wants.{Wants}
+use Rattle.lie_script.specs.declared.sizes.Wants.TheVariants as wants
+use Rattle.lie_script.proofs.CallerLemmas.{accepted-fits, answer-keeps}
+use Rattle.lie_session.specs.DatumLines.{DatumLines, opened, with_root, with_coroot, datum_wants}
+use Rattle.lie_session.specs.Ready.{Holds, Ready}
+use Rattle.lie_session.specs.Replies.{InDatum, ReadsDatum, Refuses, Does, Replies, line_refusal, torus_frame}
+use Rattle.lie_session.specs.State.{State, whole, load_wants, stage_wants, wants_from, wants_of, dim_of, rank_of, count_of, order_of, sizes_of}
+use Rattle.lie_session.specs.declared.datum.DatumStage.{DatumStage}
+use Rattle.lie_session.specs.declared.datum.DatumStage.TheVariants as datum
+use Rattle.lie_session.specs.declared.reply.Reply.{Reply}
+
+field_fits : (field : Option FiniteField) → IfSome field (λ F. order F.given ≡ order_of field)
+field_fits None = tt
+field_fits (Some F) = refl
+
+datum_fits : (stage : DatumStage) (q : ℕ) (loaded : Bool) → IfSome (whole stage) (HasDatum (record { d = dim_of stage; l = rank_of stage; m = count_of stage; q = q; dim = 0; loaded = loaded }))
+datum_fits datum.Missing q loaded = tt
+datum_fits (datum.Reading lines) q loaded = tt
+datum_fits (datum.Whole D) q loaded = record { d_is = refl; l_is = refl; m_is = refl }
+
+no_load : (b : Bool) → awaits_both (cond b wants.Root wants.Coroot) ≡ true → ⊥
+no_load true h = absurd cc
+no_load false h = absurd cc
+
+both_from : (field : Option FiniteField) (stage : DatumStage) (loaded : Bool) → (loaded ≡ true → IsSome field × IsSome (whole stage))
+    → (loaded || awaits_both (wants_from field stage loaded)) ≡ true → IsSome field × IsSome (whole stage)
+both_from field stage true holds h = holds refl
+both_from None stage false holds h = absurd cc
+both_from (Some F) datum.Missing false holds h = absurd cc
+both_from (Some F) (datum.Reading lines) false holds h = absurd (no_load (nat_lt (length lines.roots) lines.rank) h)
+both_from (Some F) (datum.Whole D) false holds h = (refl, refl)
+
+-- a session reads its lines with what it holds
+pub setting_from : (s : State) → Holds s → IsSetting (wants_of s) (sizes_of s) s.field (whole s.datum)
+setting_from s holds = record {
+  field_is = field_fits s.field;
+  datum_is = datum_fits s.datum (order_of s.field) s.loaded;
+  both = both_from s.field s.datum s.loaded holds;
+}
+
+-- ---- what is there where a line is awaited
+
+no_datum : (b : Bool) → cond b wants.Root wants.Coroot ≡ wants.Datum → ⊥
+no_datum true h = absurd cc
+no_datum false h = absurd cc
+
+unloaded_datum : (field : Option FiniteField) (stage : DatumStage) (loaded : Bool) → (loaded ≡ true → IsSome field × IsSome (whole stage)) → wants_from field stage loaded ≡ wants.Datum → loaded ≡ false
+unloaded_datum field stage false holds h = refl
+unloaded_datum None stage true holds h = absurd (false≢true (holds refl).0)
+unloaded_datum (Some F) datum.Missing true holds h = absurd (false≢true (holds refl).1)
+unloaded_datum (Some F) (datum.Reading lines) true holds h = absurd (false≢true (holds refl).1)
+unloaded_datum (Some F) (datum.Whole D) true holds h = absurd cc
+
+-- a vector is awaited
+abbrev IsVector : Wants → Type 0
+IsVector wants.Root = ⊤
+IsVector wants.Coroot = ⊤
+IsVector _ = ⊥
+
+reading_from : (field : Option FiniteField) (stage : DatumStage) (loaded : Bool) (n : ℕ) → (loaded ≡ true → IsSome field × IsSome (whole stage)) → IsVector (wants_from field stage loaded) → n ≡ dim_of stage
+    → (loaded ≡ false) × InDatum stage (λ lines. n ≡ lines.dim)
+reading_from None stage loaded n holds h long = absurd h
+reading_from (Some F) datum.Missing loaded n holds h long = absurd h
+reading_from (Some F) (datum.Reading lines) false n holds h long = (refl, long)
+reading_from (Some F) (datum.Reading lines) true n holds h long = absurd (false≢true (holds refl).1)
+reading_from (Some F) (datum.Whole D) true n holds h long = absurd h
+reading_from (Some F) (datum.Whole D) false n holds h long = absurd h
+
+-- `load` or a command is awaited
+abbrev IsLater : Wants → Type 0
+IsLater wants.Load = ⊤
+IsLater wants.Command = ⊤
+IsLater _ = ⊥
+
+no_later : (b : Bool) → IsLater (cond b wants.Root wants.Coroot) → ⊥
+no_later true h = h
+no_later false h = h
+
+later_from : (field : Option FiniteField) (stage : DatumStage) (loaded : Bool) → IsLater (wants_from field stage loaded) → IsSome field × IsSome (whole stage)
+later_from None stage loaded h = absurd h
+later_from (Some F) datum.Missing loaded h = absurd h
+later_from (Some F) (datum.Reading lines) loaded h = absurd (no_later (nat_lt (length lines.roots) lines.rank) h)
+later_from (Some F) (datum.Whole D) loaded h = (refl, refl)
+
+word_from : (field : Option FiniteField) (stage : DatumStage) (w : List Letter) → IsSome field × IsSome (whole stage)
+    → ((f : FrameData) → order f.field.given ≡ order_of field → dim f ≡ dim_of stage → IsWordOver f w) → IsSomeAnd field (λ F. IsSomeAnd (whole stage) (λ D. IsWordOver (torus_frame F D.base.dim) w))
+word_from None stage w there over = absurd (false≢true there.0)
+word_from (Some F) datum.Missing w there over = absurd (false≢true there.1)
+word_from (Some F) (datum.Reading lines) w there over = absurd (false≢true there.1)
+word_from (Some F) (datum.Whole D) w there over = over (torus_frame F D.base.dim) refl refl
+
+-- a session can do what a line says that fits
+ready_from : (s : State) (said : Line) → Holds s → Fits (wants_of s) (sizes_of s) said → Ready s said
+ready_from s line.Silent holds fits = tt
+ready_from s (line.Field p k coeffs g) holds fits = (fits.1, fits.2)
+ready_from s (line.Datum d l) holds fits = (unloaded_datum s.field s.datum s.loaded holds fits.0, fits.2, omega (arith, fits.2, fits.3))
+ready_from s (line.Root v) holds fits = reading_from s.field s.datum s.loaded (length v) holds (subst IsVector (sym fits.0) tt) fits.1
+ready_from s (line.Coroot v) holds fits = reading_from s.field s.datum s.loaded (length v) holds (subst IsVector (sym fits.0) tt) fits.1
+ready_from s line.Load holds fits = later_from s.field s.datum s.loaded (subst IsLater (sym fits) tt)
+ready_from s (line.Form w) holds fits = word_from s.field s.datum w (later_from s.field s.datum s.loaded (subst IsLater (sym fits.0) tt)) fits.1
+ready_from s line.Roots holds fits = later_from s.field s.datum s.loaded (subst IsLater (sym fits) tt)
+
+-- a session can do what a line says that was answered
+pub ready_said : (s : State) (bytes : List ℕ) (answer : Result Line LineFault) (said : Line) → Holds s → answer ≡ answer_of (reads (wants_of s) (sizes_of s) none_listed bytes) → answer ≡ Ok said → Ready s said
+ready_said s bytes answer said holds is ok =
+    ready_from s said holds
+    (IfOk-at_ok (Fits (wants_of s) (sizes_of s)) (sym is ∙ ok) (answer-keeps (Fits (wants_of s) (sizes_of s)) (reads (wants_of s) (sizes_of s) none_listed bytes) (accepted-fits (wants_of s) (sizes_of s) none_listed bytes)))
+
+replied_so : (s : State) (n : ℕ) (reply : Reply) (next : State) (read : Result Line Fault) (answer : Result Line LineFault) → answer ≡ answer_of read
+    → MatchResult answer (λ said. Does s n said reply next) (λ why. Refuses s (line_refusal n why) reply next)
+    → MatchResult read (λ said. Does s n said reply next) (λ why. Refuses s (line_refusal n (line_fault why)) reply next)
+replied_so s n reply next (Ok said) answer is h = subst (λ (a : Result Line LineFault). MatchResult a (λ said. Does s n said reply next) (λ why. Refuses s (line_refusal n why) reply next)) is h
+replied_so s n reply next (Err why) answer is h = subst (λ (a : Result Line LineFault). MatchResult a (λ said. Does s n said reply next) (λ why. Refuses s (line_refusal n why) reply next)) is h
+
+-- the reply to a line that says this
+pub replies_said : (s : State) (n : ℕ) (bytes : List ℕ) (reply : Reply) (next : State) (answer : Result Line LineFault) (said : Line) → answer ≡ answer_of (reads (wants_of s) (sizes_of s) none_listed bytes)
+    → answer ≡ Ok said → Does s n said reply next → Replies s n bytes reply next
+replies_said s n bytes reply next answer said is ok h =
+    replied_so s n reply next (reads (wants_of s) (sizes_of s) none_listed bytes) (Ok said) (sym ok ∙ is) h
+
+-- the reply to a line with this fault
+pub replies_fault : (s : State) (n : ℕ) (bytes : List ℕ) (reply : Reply) (next : State) (answer : Result Line LineFault) (why : LineFault) → answer ≡ answer_of (reads (wants_of s) (sizes_of s) none_listed bytes)
+    → answer ≡ Err why → Refuses s (line_refusal n why) reply next → Replies s n bytes reply next
+replies_fault s n bytes reply next answer why is err h =
+    replied_so s n reply next (reads (wants_of s) (sizes_of s) none_listed bytes) (Err why) (sym err ∙ is) h
+
+-- the lines of a datum are opened
+pub does_datum : {E : Type 0} (s : State) (n d l : ℕ) (said : Line) (lines : DatumLines) (result : Result Reply E) (next : State) → said ≡ line.Datum d l → lines ≡ opened d l
+    → IfOk result (λ reply. ReadsDatum s n lines reply next) → IfOk result (λ reply. Does s n said reply next)
+does_datum s n d l said lines result next says is h =
+    subst (λ (z : Line). IfOk result (λ reply. Does s n z reply next)) (sym says) (subst (λ (z : DatumLines). IfOk result (λ reply. ReadsDatum s n z reply next)) is h)
+
+joined_read : {E : Type 0} (grown : DatumLines → DatumLines) (stage : DatumStage) (s : State) (n : ℕ) (lines : DatumLines) (result : Result Reply E) (next : State) → InDatum stage (λ before. lines ≡ grown before)
+    → IfOk result (λ reply. ReadsDatum s n lines reply next) → IfOk result (λ reply. InDatum stage (λ before. ReadsDatum s n (grown before) reply next))
+joined_read grown stage s n lines (Err e) next is h = tt
+joined_read grown datum.Missing s n lines (Ok reply) next is h = absurd is
+joined_read grown (datum.Reading before) s n lines (Ok reply) next is h = subst (λ (z : DatumLines). ReadsDatum s n z reply next) is h
+joined_read grown (datum.Whole D) s n lines (Ok reply) next is h = absurd is
+
+-- a simple root joins the lines of a datum
+pub does_root : {E : Type 0} (s : State) (n : ℕ) (v w : List ℤ) (said : Line) (lines : DatumLines) (result : Result Reply E) (next : State) → said ≡ line.Root v → w ≡ v
+    → InDatum s.datum (λ before. lines ≡ with_root before w) → IfOk result (λ reply. ReadsDatum s n lines reply next) → IfOk result (λ reply. Does s n said reply next)
+does_root s n v w said lines result next says same is h =
+    subst (λ (z : Line). IfOk result (λ reply. Does s n z reply next)) (sym says)
+    (subst (λ (z : List ℤ). IfOk result (λ reply. InDatum s.datum (λ before. ReadsDatum s n (with_root before z) reply next))) same (joined_read (λ before. with_root before w) s.datum s n lines result next is h))
+
+-- a simple coroot joins the lines of a datum
+pub does_coroot : {E : Type 0} (s : State) (n : ℕ) (v w : List ℤ) (said : Line) (lines : DatumLines) (result : Result Reply E) (next : State) → said ≡ line.Coroot v → w ≡ v
+    → InDatum s.datum (λ before. lines ≡ with_coroot before w) → IfOk result (λ reply. ReadsDatum s n lines reply next) → IfOk result (λ reply. Does s n said reply next)
+does_coroot s n v w said lines result next says same is h =
+    subst (λ (z : Line). IfOk result (λ reply. Does s n z reply next)) (sym says)
+    (subst (λ (z : List ℤ). IfOk result (λ reply. InDatum s.datum (λ before. ReadsDatum s n (with_coroot before z) reply next))) same (joined_read (λ before. with_coroot before w) s.datum s n lines result next is h))

@@ -1,0 +1,5 @@
+use Rattle.lie_session.proofs.ChangeLemmas.{changes_if}
+use Rattle.lie_session.proofs.session.Session.line.Goals as goal
+
+pub returns-else-is_err-clause-changes : goal.returns-else-is_err-clause-changes
+returns-else-is_err-clause-changes c = changes_if c.args.self.now c.args.number c.args.line.now _ c.read-result.result c.read-result.ensures

@@ -1,0 +1,18 @@
+use Rattle.std.proofs.Common.{rules, ◌≡◌}
+use Rattle.lie_session.specs.DatumLines.{with_root, with_coroot}
+use Rattle.lie_session.specs.Replies.{InDatum}
+use Rattle.lie_session.proofs.StateLemmas.{does_datum, does_root, does_coroot}
+use Rattle.lie_session.proofs.session.Session.obey.Goals as goal
+
+pub returns-in-Datum : goal.returns-in-Datum
+returns-in-Datum c = does_datum c.args.self.now c.args.number c.in-Datum.d c.in-Datum.l c.args.line c.opened.result c.read_datum.result _ c.in-Datum.is c.opened.ensures c.read_datum.ensures
+
+pub returns-in_ok-lines-in-Root : goal.returns-in_ok-lines-in-Root
+returns-in_ok-lines-in-Root c =
+    let joined : InDatum c.args.self.now.datum (λ before. c.in_ok-lines-in-Root.lines ≡ with_root before c.list.result.now) = search rules in
+    does_root c.args.self.now c.args.number c.in-Root.v c.list.result.now c.args.line c.in_ok-lines-in-Root.lines c.read_datum-in-Root.result _ c.in-Root.is (search rules) joined c.read_datum-in-Root.ensures
+
+pub returns-in_ok-lines-in-Coroot : goal.returns-in_ok-lines-in-Coroot
+returns-in_ok-lines-in-Coroot c =
+    let joined : InDatum c.args.self.now.datum (λ before. c.in_ok-lines-in-Coroot.lines ≡ with_coroot before c.list-in-Coroot.result.now) = search rules in
+    does_coroot c.args.self.now c.args.number c.in-Coroot.v c.list-in-Coroot.result.now c.args.line c.in_ok-lines-in-Coroot.lines c.read_datum-in-Coroot.result _ c.in-Coroot.is (search rules) joined c.read_datum-in-Coroot.ensures

@@ -1,0 +1,30 @@
+-- The texts of the faults of fields and of root data.
+-- Own.
+use Rattle.std.specs.Prelude.{ℕ, pos, List, [], ◌∷◌, take, codes}
+use Rattle.lie_datum.specs.declared.faults.DatumFault.{DatumFault}
+use Rattle.lie_datum.specs.declared.faults.DatumFault.TheVariants as datum
+use Rattle.lie_datum.specs.declared.faults.Side.TheVariants as side
+use Rattle.lie_field.specs.declared.faults.FieldFault.{FieldFault}
+use Rattle.lie_field.specs.declared.faults.FieldFault.TheVariants as field
+use Rattle.lie_script.specs.Texts.{refusal}
+
+-- the refusal of the `field` line with the number n; want of memory has none
+abbrev pub field_refusal : ℕ → FieldFault → List ℕ
+field_refusal n field.NoMemory = []
+field_refusal n field.Size = refusal n (codes "size") []
+field_refusal n (field.Coefficient i) = refusal n (codes "coefficient") (pos i ∷ [])
+field_refusal n field.Element = refusal n (codes "element") []
+field_refusal n (field.Generator e) = refusal n (codes "generator") (pos e ∷ [])
+
+-- the refusal of the last line of a datum with l simple roots; want of memory has none
+abbrev pub datum_refusal : ℕ → ℕ → DatumFault → List ℕ
+datum_refusal n l datum.NoMemory = []
+datum_refusal n l datum.Size = refusal n (codes "size") []
+datum_refusal n l (datum.Entry side.Roots i j) = refusal n (codes "entry root") (pos i ∷ pos j ∷ [])
+datum_refusal n l (datum.Entry side.Coroots i j) = refusal n (codes "entry coroot") (pos i ∷ pos j ∷ [])
+datum_refusal n l (datum.Pairing i value) = refusal n (codes "pairing") (pos i ∷ value ∷ [])
+datum_refusal n l (datum.Positive i j) = refusal n (codes "positive") (pos i ∷ pos j ∷ [])
+datum_refusal n l (datum.Zero i j) = refusal n (codes "zero") (pos i ∷ pos j ∷ [])
+datum_refusal n l datum.Roots = refusal n (codes "roots") []
+datum_refusal n l (datum.Mixed coefficients) = refusal n (codes "mixed") (take l coefficients)
+datum_refusal n l (datum.Repeated j k) = refusal n (codes "repeated") (j ∷ k ∷ [])

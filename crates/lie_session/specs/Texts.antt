@@ -1,0 +1,43 @@
+-- The texts of replies, each ended by an LF.
+-- Own.
+--
+--   loaded q d n e     the elements of the field, the coordinates, the roots, and the dimension of the faithful module:
+--                      d where there are no roots, else `-`
+--   roots m            then a line for each positive root: its number, its coefficients, its vector and that of its coroot
+use Rattle.std.specs.Prelude.{ℕ, ◌+◌, ◌*◌, nat_eq, if◌then◌else◌, ℤ, pos, List, [], ◌∷◌, ◌++◌, map, take, length, codes, decimal}
+use Rattle.std.specs.List.{join_with_byte}
+use Rattle.lie_datum.specs.RootDatum.{Base, rank, vector, covector}
+use Rattle.lie_datum.specs.declared.root_pair.Root.{Root}
+use Rattle.lie_datum.specs.RootList.{Roots}
+use Rattle.lie_field.specs.FiniteField.{FiniteField}
+use Rattle.lie_field.specs.Quotient.{order}
+use Rattle.lie_script.specs.Texts.{spaced}
+
+-- the dimension, where it is known
+abbrev pub dimension_text : Base → List ℕ
+dimension_text b = if nat_eq (rank b) 0 then decimal b.dim else codes "-"
+
+-- the reply to `load`
+abbrev pub loaded_text : FiniteField → Roots → List ℕ
+loaded_text F D =
+    codes "loaded " ++ decimal (order F.given) ++ codes " " ++ decimal D.base.dim ++ codes " " ++ decimal (2 * length D.positive)
+    ++ codes " " ++ dimension_text D.base ++ codes "\n"
+
+-- the text of the form of a torus vector
+abbrev pub form_text : List ℕ → List ℕ
+form_text t = codes "- | " ++ join_with_byte 32 (map decimal t) ++ codes " | - | -\n"
+
+-- the line of the positive root with the number k
+abbrev pub root_text : Base → ℕ → Root → List ℕ
+root_text b k r =
+    decimal k ++ spaced (take (rank b) r.coeffs) ++ codes " |" ++ spaced (take b.dim (vector b r)) ++ codes " |"
+    ++ spaced (take b.dim (covector b r)) ++ codes "\n"
+
+-- the lines of the positive roots from the number k on
+abbrev pub root_texts : Base → ℕ → List Root → List ℕ
+root_texts b k [] = []
+root_texts b k (r ∷ rs) = root_text b k r ++ root_texts b (k + 1) rs
+
+-- the reply to `roots`
+abbrev pub roots_text : Roots → List ℕ
+roots_text D = codes "roots " ++ decimal (length D.positive) ++ codes "\n" ++ root_texts D.base 1 D.positive
