@@ -1,8 +1,8 @@
 //! A finite field: the test that loads it, and its operations.
 
-ghost use Rattle.std.specs.Prelude.{◌≡◌, ◌≢◌, ◌+◌, ◌-◌, ◌^◌, ◌<◌, ◌≤◌, ◌≤ℤ◌, pos, ◌⊎◌, All, IfSome, MatchOption, MatchResult, length, T};
+ghost use Rattle.std.specs.Prelude.{◌≡◌, ◌≢◌, ◌+◌, ◌-◌, ◌^◌, ◌<◌, ◌≤◌, ◌≤ℤ◌, pos, ◌⊎◌, All, IfSome, MatchOption, length, T};
 ghost use Rattle.lie_field.specs.Quotient.{degree, order, add, mul, neg, inv, power, power_int, of_int, field_data};
-ghost use Rattle.lie_field.specs.Faults.{IsFault, IsFirstAbove, IsSize, IsSized};
+ghost use Rattle.lie_field.specs.Faults.{Loads, IsFirstAbove, IsSize};
 ghost use Rattle.lie_field.specs.FieldTables.{IsZech};
 ghost use Rattle.lie_field.specs.FiniteField.{is_field};
 
@@ -50,7 +50,7 @@ impl Field {
     /// coefficient first.
     pub fn load(alloc: Global, p: u32, k: u32, coeffs: &[u32], g: u32) -> Result<Field, FieldFault>
         requires { length coeffs.now ≡ k }
-        ensures { MatchResult result (λ f. (f.given ≡ field_data p coeffs.now g) × IsSized f.given) (λ e. IsFault (field_data p coeffs.now g) e) }
+        ensures { Loads (field_data p coeffs.now g) result }
     {
         let Some(q) = size_of(p, k) else {
             return Err(FieldFault::Size);
@@ -96,7 +96,8 @@ impl Field {
 
     /// The element with this number, if there is one.
     pub fn elem(&self, n: u32) -> Option<Fe>
-        ensures { MatchOption result (order self.now.given ≤ n) (λ a. (a ≡ n) × (n < order self.now.given)) }
+        ensures { MatchOption result (order self.now.given ≤ n)
+            (λ a. (a ≡ n) × (n < order self.now.given)) }
     {
         if n < self.q {
             Some(Fe { number: n })

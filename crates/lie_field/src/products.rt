@@ -49,7 +49,8 @@ impl Modulus {
 fn times_x(m: &Modulus, a: u32) -> u32
     requires places { HasPlaces m.now }
     requires a_below { a < m.now.p ^ m.now.k }
-    ensures value { (f : FieldData) → IsRingData f → IsModulus f m.now → result ≡ number f.p (residues f.p (shift f (digits f.p (degree f) a))) }
+    ensures value { (f : FieldData) → IsRingData f → IsModulus f m.now →
+        result ≡ number f.p (residues f.p (shift f (digits f.p (degree f) a))) }
     ensures below { result < m.now.p ^ m.now.k }
 {
     let low = (a % m.place) * m.p;
@@ -59,7 +60,8 @@ fn times_x(m: &Modulus, a: u32) -> u32
 /// The product of b and the polynomial of the lowest digits of a, `count` of them, modulo f.
 fn product_of(m: &Modulus, count: u32, a: u32, b: u32) -> u32
     requires { HasPlaces m.now }
-    ensures value { (f : FieldData) → IsRingData f → IsModulus f m.now → result ≡ number f.p (residues f.p (act f (digits f.p count a) (digits f.p (degree f) b))) }
+    ensures value { (f : FieldData) → IsRingData f → IsModulus f m.now →
+        result ≡ number f.p (residues f.p (act f (digits f.p count a) (digits f.p (degree f) b))) }
     ensures below { result < m.now.p ^ m.now.k }
 {
     if count == 0 {

@@ -37,7 +37,8 @@ impl Tables {
         requires q_is { q ≡ order (field_data p coeffs.now g) }
         requires q_small { q ≤ 65536 }
         requires g_below { g < q }
-        ensures { MatchResult result (λ t. IsFieldData (field_data p coeffs.now g) × AreTables (field_data p coeffs.now g) t) (IsTablesFault (field_data p coeffs.now g)) }
+        ensures { let f = field_data p coeffs.now g in
+            MatchResult result (λ t. IsFieldData f × AreTables f t) (IsTablesFault f) }
     {
         let powers = powers_of(alloc, p, k, q, coeffs, g)?;
         let negatives = negatives_of(alloc, p, k, q).map_err(|_| FieldFault::NoMemory)?;
@@ -57,7 +58,8 @@ fn negatives_of(alloc: Global, p: u32, k: u32, q: u32) -> Result<Vec<u32>, Alloc
     requires p_pos { 0 < p }
     requires small { p ^ k ≤ 65536 }
     requires p_small { p ≤ 65536 }
-    ensures { IfOk result (λ v. v.items ≡ map (λ a. number p (residues p (scale (p - 1) (digits p k a)))) (range_with_len 0 q)) }
+    ensures { IfOk result (λ v. v.items ≡
+        map (λ a. number p (residues p (scale (p - 1) (digits p k a)))) (range_with_len 0 q)) }
 {
     (0..q).map(|a| multiple_of(p, k, p - 1, a)).collect(alloc)
 }
@@ -73,7 +75,8 @@ fn zech_of(
     requires p_pos { 0 < p }
     requires small { p ^ k ≤ 65536 }
     requires logs_length { length logs.now ≡ p ^ k }
-    ensures { IfOk result (λ v. v.items ≡ map (λ a. log_at logs.now (number p (residues p (plus (digits p k 1) (digits p k a))))) powers.now) }
+    ensures { IfOk result (λ v. v.items ≡
+        map (λ a. log_at logs.now (number p (residues p (plus (digits p k 1) (digits p k a))))) powers.now) }
 {
     powers
         .iter()
@@ -110,7 +113,8 @@ fn powers_of(
     requires q_is { q ≡ order (field_data p coeffs.now g) }
     requires q_small { q ≤ 65536 }
     requires g_below { g < q }
-    ensures { MatchResult result (λ t. IsFieldData (field_data p coeffs.now g) × ArePowers (field_data p coeffs.now g) t.powers.items t.logs.items) (IsTablesFault (field_data p coeffs.now g)) }
+    ensures { let f = field_data p coeffs.now g in
+        MatchResult result (λ t. IsFieldData f × ArePowers f t.powers.items t.logs.items) (IsTablesFault f) }
 {
     let modulus = Modulus::new(p, k, q, coeffs, g);
     let mut logs: Vec<u32> = Vec::new(alloc);

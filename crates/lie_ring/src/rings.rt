@@ -43,7 +43,8 @@ pub trait Ring {
     fn of_int(&self, alloc: Global, n: i128) -> Result<Self::Elem, RingStop>
         ensures fits { IfOk result (Fits (ring self.now)) }
         ensures value { IfOk result (λ r. r ≡ (ring self.now).of_int n) }
-        ensures wide { result ≡ Err RingStop.Wide → ¬ (IsTrue (ring self.now).roomy) × (2 ^ 126 ≤ nat_abs n) }
+        ensures wide { result ≡ Err RingStop.Wide →
+            ¬ (IsTrue (ring self.now).roomy) × (2 ^ 126 ≤ nat_abs n) }
         ensures narrow { OnOk result (IsTrue (ring self.now).roomy ⊎ (nat_abs n < 2 ^ 126)) };
 
     /// An equal element.
@@ -58,7 +59,8 @@ pub trait Ring {
         requires b { Fits (ring self.now) b.now }
         ensures fits { IfOk result (Fits (ring self.now)) }
         ensures value { IfOk result (λ r. r ≡ (ring self.now).add a.now b.now) }
-        ensures wide { result ≡ Err RingStop.Wide → 2 ^ 126 ≤ (ring self.now).size a.now + (ring self.now).size b.now }
+        ensures wide { result ≡ Err RingStop.Wide →
+            2 ^ 126 ≤ (ring self.now).size a.now + (ring self.now).size b.now }
         ensures narrow { OnOk result ((ring self.now).size a.now + (ring self.now).size b.now < 2 ^ 126) };
 
     fn neg(&self, alloc: Global, a: &Self::Elem) -> Result<Self::Elem, RingStop>
@@ -72,8 +74,12 @@ pub trait Ring {
         requires b { Fits (ring self.now) b.now }
         ensures fits { IfOk result (Fits (ring self.now)) }
         ensures value { IfOk result (λ r. r ≡ (ring self.now).mul a.now b.now) }
-        ensures wide { result ≡ Err RingStop.Wide → (2 ^ 126 ≤ (ring self.now).size a.now * (ring self.now).size b.now) ⊎ (2 ^ 30 ≤ (ring self.now).degree a.now + (ring self.now).degree b.now) }
-        ensures narrow { OnOk result (((ring self.now).size a.now * (ring self.now).size b.now < 2 ^ 126) × ((ring self.now).degree a.now + (ring self.now).degree b.now < 2 ^ 30)) };
+        ensures wide { result ≡ Err RingStop.Wide →
+            (2 ^ 126 ≤ (ring self.now).size a.now * (ring self.now).size b.now)
+            ⊎ (2 ^ 30 ≤ (ring self.now).degree a.now + (ring self.now).degree b.now) }
+        ensures narrow { OnOk result (
+            ((ring self.now).size a.now * (ring self.now).size b.now < 2 ^ 126)
+            × ((ring self.now).degree a.now + (ring self.now).degree b.now < 2 ^ 30)) };
 
     /// Whether two elements are equal.
     fn same(&self, a: &Self::Elem, b: &Self::Elem) -> bool

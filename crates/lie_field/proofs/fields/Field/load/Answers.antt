@@ -100,4 +100,4 @@ returns c =
     let copied : c.in_ok-coefficients.coefficients.items ≡ c.args.coeffs.now = search rules in
     let s = sized c.args.p c.args.k c.in-Some.q c.args.coeffs.now c.args.g c.requires c.in-Some.ensures in
     let same = same_data c.args.p c.args.coeffs.now c.in_ok-coefficients.coefficients.items c.args.g copied in
-    (sym same, subst IsSized same s.0)
+    (sym same, subst IsSized same s.0, subst IsFieldData same c.in_ok-tables.ensures.0)
