@@ -1,9 +1,9 @@
 -- The definitions at work on A_2 and on B_2, with unit vectors as simple coroots.
-use Rattle.std.proofs.Common.{◌≡◌, ℕ, ℤ, pos, negsuc, List, [], ◌∷◌, ◌++◌, replicate, map, refl, Some, None}
-use Rattle.std.specs.declared.cmp.Ordering.TheVariants.{Less, Greater}
+use Rattle.std.proofs.Common.{◌≡◌, ℤ, pos, negsuc, [], ◌∷◌, replicate, refl, Some, None}
+use Rattle.std.specs.declared.cmp.Ordering.TheVariants.{Less}
 use Rattle.lie_datum.specs.Vectors.{Vector, pairing}
 use Rattle.lie_datum.specs.Numbers.{place}
-use Rattle.lie_datum.specs.RootDatum.{Base, Root, cartan, vector, covector, root_pairing, simple, opposite, reflected}
+use Rattle.lie_datum.specs.RootDatum.{Root, cartan, vector, simple, opposite, reflected}
 use Rattle.lie_datum.specs.RootList.{Roots, height, root_cmp, numbered, root_of, length2}
 use Rattle.lie_datum.specs.Laws.{reflected_in, positive_coroots}
 
