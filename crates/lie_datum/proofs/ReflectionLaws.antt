@@ -1,5 +1,5 @@
 -- The reflection in any root permutes the roots, and a simple reflection the positive roots but its own.
-use Rattle.std.proofs.Common.{◌≡◌, ◌≢◌, ℕ, zero, suc, ◌≤◌, ◌≤ℤ◌, ℤ, pos, negsuc, neg_ℤ, ◌+ℤ◌, ◌*ℤ◌, refl, sym, ap, subst, ◌∙◌, arith}
+use Rattle.std.proofs.Common.{◌≡◌, ◌≢◌, ℕ, zero, suc, ◌≤ℤ◌, pos, negsuc, neg_ℤ, ◌+ℤ◌, ◌*ℤ◌, sym, ap, subst, ◌∙◌, arith}
 use Rattle.std.proofs.lemmas.Int.{ints}
 use Rattle.lie_datum.specs.Vectors.{Vector, pairing, minus}
 use Rattle.lie_datum.specs.RootDatum.{Root, IsRoot, is_simple, IsSimpleIndex, IsPositive, IsNegative, vector, covector, root_pairing, simple, opposite, reflected}

@@ -1,9 +1,9 @@
 -- The simple roots are the positive roots of height 1, and stand first in the order.
-use Rattle.std.proofs.Common.{◌≡◌, ◌≢◌, ℕ, zero, suc, ◌+◌, ◌-◌, ◌<◌, ◌≤◌, ℤ, pos, negsuc, ◌+ℤ◌, ◌≤ℤ◌, ◌<ℤ◌, List, [], ◌∷◌, length, get_or, refl, sym, ap, subst, ◌∙◌, arith, Option, None, Some, slice_get, ◌⊎◌, inl, inr, ⊎_elim, Bool, true, false, cond}
+use Rattle.std.proofs.Common.{◌≡◌, ◌≢◌, ℕ, zero, suc, ◌+◌, ◌<◌, ◌≤◌, pos, negsuc, ◌+ℤ◌, ◌≤ℤ◌, ◌<ℤ◌, List, [], ◌∷◌, length, refl, sym, ap, subst, ◌∙◌, arith, Some, slice_get, ◌⊎◌, inl, inr, ⊎_elim}
 use Rattle.std.proofs.lemmas.Int.{ints, by_lt_z}
 use Rattle.std.proofs.lemmas.Cmp.{int_ranked}
 use Rattle.std.proofs.Math.IntN.{+ℤ_idl}
-use Rattle.std.specs.List.{All, AllByRecursion}
+use Rattle.std.specs.List.{AllByRecursion}
 use Rattle.std.specs.List.Sorted.{IsStrictlySortedBy}
 use Rattle.std.specs.Ordering.{int_cmp, ordering_then, MatchOrdering}
 use Rattle.std.specs.Cmp.Lexicographic.{slice_cmp}
@@ -11,11 +11,11 @@ use Rattle.std.specs.declared.cmp.Ordering.{Ordering}
 use Rattle.std.specs.declared.cmp.Ordering.TheVariants.{Less, Equal, Greater}
 use Rattle.lie_datum.specs.Vectors.{Vector, unit, total, entry}
 use Rattle.lie_datum.specs.RootDatum.{Root, IsRoot, is_simple, IsSimpleIndex, IsPositive, simple, rank}
-use Rattle.lie_datum.specs.RootList.{Roots, IsLoaded, root_cmp, height, numbered}
+use Rattle.lie_datum.specs.RootList.{Roots, IsLoaded, root_cmp, height}
 use Rattle.lie_datum.specs.Laws.{SimplesFirst}
-use Rattle.lie_base.proofs.Members.{In, here, there, IsSimpleList}
-use Rattle.lie_datum.proofs.Entries.{within_or_past, entry-unit, entry_past}
-use Rattle.lie_datum.proofs.Roots.{root_lengths, same_root}
+use Rattle.lie_base.proofs.Members.{In, here, there}
+use Rattle.lie_datum.proofs.Entries.{within_or_past, entry-unit}
+use Rattle.lie_datum.proofs.Roots.{root_lengths}
 use Rattle.lie_datum.proofs.ThirdLaw.{entry_off, past_rank}
 use Rattle.lie_datum.proofs.HeightLemmas.{height_positive, entries_not_negative, no_less, all_zero}
 use Rattle.lie_datum.proofs.SignedRoots.{same_coeffs}

@@ -1,5 +1,5 @@
 -- The faults exclude one another, and fields.
-use Rattle.std.proofs.Common.{◌≡◌, ◌≢◌, ◌⊎◌, ℕ, ◌<◌, ◌≤◌, List, get_or, refl, ap, ◌∙◌, arith, inl, inr, All}
+use Rattle.std.proofs.Common.{◌≡◌, ◌≢◌, ◌⊎◌, ℕ, ◌<◌, ◌≤◌, List, get_or, refl, ap, ◌∙◌, arith, All}
 use mathlib.Core.Logic.{⊎_elim}
 use Rattle.std.proofs.lemmas.Bool.{cases_eq, cases_lt}
 use Rattle.lie_field.specs.Quotient.{FieldData, order, power, IsFieldData}
@@ -15,21 +15,25 @@ least P i j p q before_i before_j =
     ⊎_elim (λ low. absurd (before_j i low p)) (λ high. absurd (before_i j (omega (arith, apart, high)) q)) (cases_lt i j))
     (cases_eq i j)
 
+-- one coefficient alone is the first that is too large
 first_above_once : (p : ℕ) (xs : List ℕ) (i j : ℕ) → IsFirstAbove p xs i → IsFirstAbove p xs j → i ≡ j
 first_above_once p xs i j h k =
     least (λ n. p ≤ get_or xs n 0) i j h.1 k.1
     (λ n l above. let below = h.2 n l in let never : ⊥ = omega (arith, above, below) in never)
     (λ n l above. let below = k.2 n l in let never : ⊥ = omega (arith, above, below) in never)
 
+-- one exponent alone is the first that is bad
 first_bad_once : (f : FieldData) (i j : ℕ) → IsFirstBad f i → IsFirstBad f j → i ≡ j
 first_bad_once f i j h k =
     least (λ n. (1 ≤ n) × IsBad f n) i j (h.0, h.2) (k.0, k.2)
     (λ n l bad. h.3 n bad.0 l bad.1)
     (λ n l bad. k.3 n bad.0 l bad.1)
 
+-- no coefficient is too large where all are below p
 none_above : (p : ℕ) (xs : List ℕ) (i : ℕ) → IsFirstAbove p xs i → All (λ c. c < p) xs → ⊥
 none_above p xs i h all = let below = all i 0 h.0 in let above = h.1 in let never : ⊥ = omega (arith, below, above) in never
 
+-- g is not both a unit and none
 no_unit : (f : FieldData) → (f.g ≡ 0) ⊎ (order f ≤ f.g) → IsUnit f → ⊥
 no_unit f h u =
     let low = u.0 in
@@ -60,6 +64,7 @@ faults_once f (Generator i) (Coefficient j) h k m n = absurd (none_above f.p f.c
 faults_once f (Generator i) Element h k m n = absurd (no_unit f k.2 h.2)
 faults_once f (Generator i) (Generator j) h k m n = ap Generator (first_bad_once f i j h.3 k.3)
 
+-- no exponent of a generator is bad
 not_bad : (f : FieldData) → IsFieldData f → (e : ℕ) → IsBad f e → ⊥
 not_bad f d e bad =
     ⊎_elim

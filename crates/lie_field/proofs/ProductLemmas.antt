@@ -32,6 +32,7 @@ digits-mod p h (suc j) n =
     let high : n % p ^ suc j / p ≡ c = ap (λ z. z / p) split ∙ div-mul-add c p (n % p) below in
     cons2 low (ap (digits p j) high ∙ digits-mod p h j (n / p))
 
+-- the highest of j + 1 digits
 digits-top : (p : ℕ) → 0 < p → (j n : ℕ) → n < p ^ suc j → get_or (digits p (suc j) n) j 0 ≡ n / p ^ j
 digits-top p h zero n small =
     let l : n < p = let e : p ^ 1 ≡ p = pow-suc p 0 ∙ ap (λ z. z * p) (pow-zero p) ∙ one-mul p in omega (arith, e, small) in

@@ -1,10 +1,10 @@
 -- The tables of negatives and of Zech's logarithms, as they are made.
-use Rattle.std.proofs.Common.{◌≡◌, ℕ, zero, suc, ◌+◌, ◌-◌, ◌<◌, List, Option, None, map, length, get_or, sym, ap, ◌∙◌, subst, arith}
+use Rattle.std.proofs.Common.{◌≡◌, ℕ, zero, suc, ◌-◌, ◌<◌, List, Option, None, map, length, get_or, sym, ap, ◌∙◌, subst, arith}
 use Rattle.std.specs.List.{range_with_len}
 use Rattle.std.proofs.lemmas.List.{get_or-map, length-map}
 use Rattle.std.proofs.lemmas.List.FromFn.{get_or-map-range_with_len, length-map-range_with_len}
 use Rattle.lie_field.specs.Polynomials.{plus, scale, residues, number, digits}
-use Rattle.lie_field.specs.Quotient.{FieldData, degree, order, add, power, IsRingData, IsFieldData}
+use Rattle.lie_field.specs.Quotient.{FieldData, degree, order, add, power, IsRingData}
 use Rattle.lie_field.specs.FieldTables.{log_at, ArePowers, AreNegatives, IsZech, AreZech}
 use Rattle.lie_field.specs.Algebra.Laws.{add-digits, neg-digits, add_below}
 

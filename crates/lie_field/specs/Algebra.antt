@@ -1,4 +1,4 @@
--- The algebra that the law of a field's value needs: lemmas alone, and no definition that a contract cites.
+-- Lemmas that the law of a field's value needs, in the order in which they rest on one another.
 pub mod Lists
 pub mod Shifts
 pub mod Digits

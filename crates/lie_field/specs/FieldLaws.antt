@@ -4,10 +4,10 @@
 --   Z[x]                  lists of coefficients, from the constant coefficient up
 --   the quotient map      element f          from Z[x] to the numbers below q
 --   (p, f)                goes to 0: p times any polynomial, and f itself
-use Rattle.std.specs.Prelude.{◌≡◌, ◌≢◌, ℕ, ◌-◌, ◌<◌, ◌↔◌, List, [], ◌∷◌, ◌++◌, T}
+use Rattle.std.specs.Prelude.{◌≡◌, ◌≢◌, ℕ, ◌-◌, ◌<◌, ◌↔◌, List, [], ◌∷◌, ◌++◌, All, T, length}
 use Rattle.lie_ring.specs.Rings.{IsCommutativeRing}
-use Rattle.lie_field.specs.Polynomials.{plus, scale, times}
-use Rattle.lie_field.specs.Quotient.{FieldData, order, element, polynomial, add, mul, inv, power, IsRingData, IsFieldData}
+use Rattle.lie_field.specs.Polynomials.{plus, scale, times, number}
+use Rattle.lie_field.specs.Quotient.{FieldData, degree, order, element, polynomial, add, mul, inv, power, IsRingData, IsFieldData}
 use Rattle.lie_field.specs.FiniteField.{FiniteField, is_field}
 use Rattle.lie_field.specs.FieldRing.{field_ring}
 use Rattle.lie_field.specs.Faults.{IsSized, IsFault}
@@ -36,12 +36,16 @@ pub record PowersAreUnits (f : FiniteField) : Type 0 where
 abbrev pub GeneratorsGenerate : Type 0
 GeneratorsGenerate = (f : FiniteField) → PowersAreUnits f
 
--- `element f` carries sums to sums and products to products, reaches each element, and carries (p, f) to 0
+-- `element f` carries sums to sums and products to products, reaches each element by the polynomial of its digits, and
+-- carries (p, f) to 0
 pub record IsQuotientMap (f : FieldData) : Type 0 where
   pub below : (v : List ℕ) → element f v < order f
   pub sum : (u v : List ℕ) → element f (plus u v) ≡ add f (element f u) (element f v)
   pub product : (u v : List ℕ) → element f (times u v) ≡ mul f (element f u) (element f v)
   pub onto : (a : ℕ) → a < order f → element f (polynomial f a) ≡ a
+  pub polynomial_length : (a : ℕ) → length (polynomial f a) ≡ degree f
+  pub polynomial_below : (a : ℕ) → All (λ c. c < f.p) (polynomial f a)
+  pub polynomial_number : (a : ℕ) → a < order f → number f.p (polynomial f a) ≡ a
   pub modulus : element f (f.coefficients ++ 1 ∷ []) ≡ 0
   pub characteristic : (v : List ℕ) → element f (scale f.p v) ≡ 0
 

@@ -11,3 +11,4 @@ pub mod OneOutputLemmas
 pub mod StatusLemmas
 pub mod ProgressLemmas
 pub mod CauseLemmas
+pub mod WorkedExamples

@@ -9,6 +9,7 @@ use Rattle.lie_field.specs.Algebra.Shifts.{act, act-plus, act-scale, act_length,
 use Rattle.lie_field.specs.Algebra.Digits.{length-digits, digits-number, number-digits, residues-digits, number_below, number-zeros, digits-zero, digits-one}
 
 module _ (f : FieldData) where
+  -- a sum of residues has the residues of the sum
   pub residues2 : (u v : List ℕ) → residues f.p (plus (residues f.p u) (residues f.p v)) ≡ residues f.p (plus u v)
   residues2 u v =
       residues_plus f.p (residues f.p u) v ∙ ap (residues f.p) (plus_comm (residues f.p u) v) ∙ residues_plus f.p v u ∙ ap (residues f.p) (plus_comm v u)
@@ -30,6 +31,7 @@ module _ (f : FieldData) where
       ∙ ap (λ y. residues p (plus (residues p (take k (0 ∷ v))) y)) (residue_scale p c n)
       ∙ residues2 (take k (0 ∷ v)) (scale c n)
 
+  -- congruent polynomials have congruent multiples
   pub residues_act : (u w : List ℕ) → residues f.p (act f u (residues f.p w)) ≡ residues f.p (act f u w)
   residues_act [] w = residues_scale f.p 0 w
   residues_act (a ∷ u) w =
@@ -41,6 +43,7 @@ module _ (f : FieldData) where
       ∙ residues2 (scale a w) (shift f (act f u w))
 
   module _ (d : IsRingData f) where
+    -- p is positive
     p_pos : 0 < f.p
     p_pos = let h = d.p_large in omega arith
 
@@ -53,15 +56,18 @@ module _ (f : FieldData) where
         ap (λ k. digits p k (number p (residues p r))) (sym (remainder_length f v d.has_degree))
         ∙ digits-number p p_pos r
 
+    -- an element is the number of a remainder
     pub element-is : (v : List ℕ) → element f v ≡ number f.p (residues f.p (remainder f v))
     unfolding element
     element-is v = refl
 
+    -- the remainder of the polynomial of an element
     remainder-polynomial : (v : List ℕ) → remainder f (polynomial f (element f v)) ≡ residues f.p (remainder f v)
     remainder-polynomial v =
         ap (remainder f) (polynomial-element v)
         ∙ remainder_short f (residues f.p (remainder f v)) (length-residues f.p (remainder f v) ∙ remainder_length f v d.has_degree)
 
+    -- an element is below q
     pub element_below : (v : List ℕ) → element f v < order f
     unfolding order
     element_below v =
@@ -79,6 +85,7 @@ module _ (f : FieldData) where
         ∙ ap (residues p) (sym (remainder-plus f d.has_degree u v)))
         ∙ sym (element-is (plus u v))
 
+    -- and so for products
     pub element-times : (u v : List ℕ) → element f (times u (polynomial f (element f v))) ≡ element f (times u v)
     element-times u v =
         let p = f.p in
@@ -89,9 +96,11 @@ module _ (f : FieldData) where
         ∙ ap (residues p) (sym (remainder-times f d.has_degree u v)))
         ∙ sym (element-is (times u v))
 
+    -- polynomials with one remainder stand for one element
     pub element-same : (u v : List ℕ) → remainder f u ≡ remainder f v → element f u ≡ element f v
     element-same u v e = element-is u ∙ ap (λ r. number f.p (residues f.p r)) e ∙ sym (element-is v)
 
+    -- the polynomial of an element stands for it
     pub element-polynomial : (a : ℕ) → a < order f → element f (polynomial f a) ≡ a
     unfolding order
     element-polynomial a h =
@@ -105,26 +114,32 @@ module _ (f : FieldData) where
     unfolding add
     add_below a b = element_below (plus (polynomial f a) (polynomial f b))
 
+    -- a product is an element
     pub mul_below : (a b : ℕ) → mul f a b < order f
     unfolding mul
     mul_below a b = element_below (times (polynomial f a) (polynomial f b))
 
+    -- a negative is an element
     pub neg_below : (a : ℕ) → neg f a < order f
     unfolding neg
     neg_below a = element_below (scale (f.p - 1) (polynomial f a))
 
+    -- sums are commutative
     pub add_comm : (a b : ℕ) → add f a b ≡ add f b a
     unfolding add
     add_comm a b = ap (element f) (plus_comm (polynomial f a) (polynomial f b))
 
+    -- the sum with the element of a polynomial
     pub add_right : (a : ℕ) (v : List ℕ) → add f a (element f v) ≡ element f (plus (polynomial f a) v)
     unfolding add
     add_right a v = element-plus (polynomial f a) v
 
+    -- the product with the element of a polynomial
     pub mul_right : (a : ℕ) (v : List ℕ) → mul f a (element f v) ≡ element f (times (polynomial f a) v)
     unfolding mul
     mul_right a v = element-times (polynomial f a) v
 
+    -- sums are associative
     pub add_assoc : (a b c : ℕ) → add f (add f a b) c ≡ add f a (add f b c)
     unfolding add
     add_assoc a b c =
@@ -136,12 +151,14 @@ module _ (f : FieldData) where
         ∙ ap (element f) (plus_comm z (plus x y) ∙ plus_assoc x y z)
         ∙ sym (add_right a (plus y z))
 
+    -- products are commutative
     pub mul_comm : (a b : ℕ) → mul f a b ≡ mul f b a
     unfolding mul
     mul_comm a b =
         element-same (times (polynomial f a) (polynomial f b)) (times (polynomial f b) (polynomial f a))
         (times_comm f d.has_degree (polynomial f a) (polynomial f b))
 
+    -- products are associative
     pub mul_assoc : (a b c : ℕ) → mul f (mul f a b) c ≡ mul f a (mul f b c)
     unfolding mul
     mul_assoc a b c =
@@ -154,6 +171,7 @@ module _ (f : FieldData) where
         (times_comm f d.has_degree z (times x y) ∙ times_assoc f d.has_degree x y z)
         ∙ sym (mul_right a (times y z))
 
+    -- products distribute over sums
     pub mul-add : (a b c : ℕ) → mul f a (add f b c) ≡ add f (mul f a b) (mul f a c)
     unfolding mul add
     mul-add a b c =
@@ -172,6 +190,7 @@ module _ (f : FieldData) where
         ∙ ap (element f) (plus_comm (times x z) (polynomial f (element f (times x y))))
         ∙ sym (element-plus (polynomial f (element f (times x y))) (times x z))
 
+    -- 0 is neutral for sums
     pub add_zero : (a : ℕ) → a < order f → add f a 0 ≡ a
     unfolding add
     add_zero a h =
@@ -179,6 +198,7 @@ module _ (f : FieldData) where
         ∙ ap (element f) (plus-zeros (degree f) (polynomial f a) (le_of_eq (sym (length-digits f.p (degree f) a))))
         ∙ element-polynomial a h
 
+    -- 1 is neutral for products
     pub mul_one : (a : ℕ) → a < order f → mul f a 1 ≡ a
     unfolding mul
     mul_one a h =
@@ -193,6 +213,7 @@ module _ (f : FieldData) where
         (remainder-times f d.has_degree x (polynomial f 1) ∙ ap (act f x) keeps ∙ act_one f d.has_degree x)
         ∙ element-polynomial a h
 
+    -- an element and its negative sum to 0
     pub add_neg : (a : ℕ) → add f a (neg f a) ≡ 0
     unfolding neg
     add_neg a =
@@ -207,6 +228,7 @@ module _ (f : FieldData) where
         ∙ ap (number p) (residues_whole p (remainder f x))
         ∙ number-zeros p (length (remainder f x))
 
+    -- a product with 0 is 0
     pub mul_zero : (a : ℕ) → mul f a 0 ≡ 0
     unfolding mul
     mul_zero a =
@@ -226,6 +248,7 @@ module _ (f : FieldData) where
         ∙ ap (number p) (residues-zeros p k)
         ∙ number-zeros p k
 
+    -- and so on the left
     pub zero_mul : (a : ℕ) → mul f 0 a ≡ 0
     zero_mul a = mul_comm 0 a ∙ mul_zero a
 
@@ -239,6 +262,7 @@ module _ (f : FieldData) where
         length-plus x y (le_of_eq (length-digits f.p (degree f) a ∙ sym (length-digits f.p (degree f) b))) ∙ length-digits f.p (degree f) b in
         ap (λ r. number f.p (residues f.p r)) (sym (remainder_short f (plus x y) long)) ∙ sym (element-is (plus x y))
 
+    -- and so for negatives
     pub neg-digits : (a : ℕ) → number f.p (residues f.p (scale (f.p - 1) (digits f.p (degree f) a))) ≡ neg f a
     unfolding neg
     neg-digits a =

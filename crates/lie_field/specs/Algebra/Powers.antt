@@ -7,15 +7,18 @@ use Rattle.lie_field.specs.Algebra.Digits.{two-le-pow}
 use Rattle.lie_field.specs.Algebra.Reach.{reach}
 
 module _ (f : FieldData) (d : IsRingData f) where
+  -- q is at least 2
   pub one_below : 1 < order f
   unfolding order
   one_below = two-le-pow f.p (degree f) d.p_large d.has_degree
 
+  -- a power is an element
   pub power_below : (a e : ℕ) → power f a e < order f
   unfolding power
   power_below a zero = one_below
   power_below a (suc e) = mul_below f d (power f a e) a
 
+  -- a^(i + j) = a^i a^j
   pub power-add : (a i j : ℕ) → power f a (i + j) ≡ mul f (power f a i) (power f a j)
   unfolding power
   power-add a i zero = ap (power f a) (add-zero i) ∙ sym (mul_one f d (power f a i) (power_below a i))
@@ -24,11 +27,13 @@ module _ (f : FieldData) (d : IsRingData f) where
       ∙ ap (λ x. mul f x a) (power-add a i j)
       ∙ mul_assoc f d (power f a i) (power f a j) a
 
+  -- the powers of 1 are 1
   pub power-one : (e : ℕ) → power f 1 e ≡ 1
   unfolding power
   power-one zero = refl
   power-one (suc e) = ap (λ x. mul f x 1) (power-one e) ∙ mul_one f d 1 one_below
 
+  -- a^(i j) = (a^i)^j
   pub power-mul : (a i j : ℕ) → power f a (i * j) ≡ power f (power f a i) j
   unfolding power
   power-mul a i zero = ap (power f a) (mul-zero i)
@@ -36,6 +41,7 @@ module _ (f : FieldData) (d : IsRingData f) where
       ap (power f a) (mul-suc i j) ∙ power-add a (i * j) i ∙ ap (λ x. mul f x (power f a i)) (power-mul a i j)
 
 module _ (f : FieldData) (d : IsFieldData f) where
+  -- each element but 0 is a power of g with exponent below q - 1
   pub power_of_g : (a : ℕ) → 0 < a → a < order f → (e : ℕ) × (e < order f - 1) × (power f f.g e ≡ a)
   power_of_g a pos small =
       reach (power f f.g) (order f) a
@@ -58,6 +64,7 @@ module _ (f : FieldData) (d : IsFieldData f) where
             ∙ d.power_last,
       )
 
+  -- q - 1 may be left out of an exponent of g
   pub power_wrap : (s : ℕ) → order f - 1 ≤ s → power f f.g s ≡ power f f.g (s - (order f - 1))
   power_wrap s h =
       let n = order f - 1 in
@@ -71,6 +78,7 @@ module _ (f : FieldData) (d : IsFieldData f) where
   pub mul-logs : (a b i j : ℕ) → power f f.g i ≡ a → power f f.g j ≡ b → mul f a b ≡ power f f.g (i + j)
   mul-logs a b i j e h = ap (λ x. mul f x b) (sym e) ∙ ap (mul f (power f f.g i)) (sym h) ∙ sym (power-add f d.ring f.g i j)
 
+  -- a^(q - 1) = 1
   pub power_order : (a : ℕ) → 0 < a → a < order f → power f a (order f - 1) ≡ 1
   power_order a pos small =
       let e = power_of_g a pos small in
@@ -82,6 +90,7 @@ module _ (f : FieldData) (d : IsFieldData f) where
       ∙ ap (λ x. power f x e.0) d.power_last
       ∙ power-one f d.ring e.0
 
+  -- an element times its inverse is 1
   pub mul-inv : (a : ℕ) → 0 < a → a < order f → mul f a (inv f a) ≡ 1
   unfolding inv power
   mul-inv a pos small =
@@ -89,6 +98,7 @@ module _ (f : FieldData) (d : IsFieldData f) where
       let e : suc (order f - 2) ≡ order f - 1 = omega (arith, large) in
       mul_comm f d.ring a (power f a (order f - 2)) ∙ ap (power f a) e ∙ power_order a pos small
 
+  -- an inverse is an element
   pub inv-below : (a : ℕ) → inv f a < order f
   unfolding inv
   inv-below a = power_below f d.ring a (order f - 2)

@@ -1,7 +1,6 @@
-use Rattle.std.proofs.Common.{◌≡◌, ◌+◌, ◌<◌, length, get_or, take, arith, [], ◌∷◌, ◌++◌, subst, sym, ap, ◌∙◌, Option, Some, None, List, false, true}
+use Rattle.std.proofs.Common.{get_or, take, arith, [], ◌∷◌, ◌++◌, subst, sym, List}
 use Rattle.std.proofs.lemmas.List.{take_more, take_all}
-use Rattle.lie_datum.specs.Vectors.{Vector}
-use Rattle.lie_datum.specs.RootDatum.{Root, IsMixed}
+use Rattle.lie_datum.specs.RootDatum.{Root}
 use Rattle.lie_datum.specs.Listing.{IsGreatestMixedOf}
 use Rattle.lie_datum.proofs.ListingLemmas.{no_mixed, mixed_same, mixed_first, mixed_more}
 use Rattle.lie_datum.proofs.listing.greatest_mixed.Goals as goal

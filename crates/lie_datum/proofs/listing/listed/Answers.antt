@@ -1,6 +1,6 @@
-use Rattle.std.proofs.Common.{◌≡◌, get_or, length, ◌≤◌, subst, sym, ap, ◌∙◌, List}
+use Rattle.std.proofs.Common.{subst, List}
 use Rattle.std.specs.List.{Contains}
-use Rattle.lie_datum.specs.RootDatum.{Root, IsRoot, IsMixed, IsUnmixed}
+use Rattle.lie_datum.specs.RootDatum.{Root, IsMixed}
 use Rattle.lie_datum.specs.Listing.{IsGreatestMixedIn}
 use Rattle.lie_datum.proofs.ListingLemmas.{finite_closure, unmixed_closure, greatest_closure}
 use Rattle.lie_datum.proofs.listing.listed.Goals as goal

@@ -1,14 +1,14 @@
-use Rattle.std.proofs.Common.{◌≡◌, ◌+◌, ◌<◌, length, get_or, take, map, arith, [], ◌∷◌, ◌++◌, subst, sym, ap, ◌∙◌, List, true, false, lit<}
+use Rattle.std.proofs.Common.{◌≡◌, get_or, take, map, arith, [], ◌∷◌, ◌++◌, subst, sym, ap, ◌∙◌, List, lit<}
 use mir.Val.{to_z, of_z}
 use mir.Syntax.{w128}
-use Rattle.std.proofs.lemmas.List.{take_more, take_all, map-append}
+use Rattle.std.proofs.lemmas.List.{take_more, map-append}
 use Rattle.std.proofs.lemmas.List.Elements.{All-push}
 use Rattle.std.specs.List.{All}
 use Rattle.lie_datum.specs.declared.listing.Ranked.{Ranked}
 use Rattle.lie_datum.specs.RootDatum.{Root, IsPositive}
 use Rattle.lie_datum.specs.Listing.{IsPicked, IsRanked, ranked_root}
 use Rattle.lie_datum.proofs.VectorLemmas.{plain}
-use Rattle.lie_datum.proofs.ListingLemmas.{picked_none, picked_more, picked_same}
+use Rattle.lie_datum.proofs.ListingLemmas.{picked_more, picked_same}
 use Rattle.lie_datum.proofs.listing.pick_positive.Goals as goal
 use Rattle.lie_datum.proofs.listing.pick_positive.Goals.{then-is_positive+in_ok-push, else-is_positive}
 

@@ -1,8 +1,7 @@
-use Rattle.std.proofs.Common.{◌≡◌, ◌≤◌, ◌*◌, ◌+◌, ◌+ℤ◌, ◌*ℤ◌, get_or, take, [], sym, ap, subst, ◌∙◌, arith, unsigned_abs}
+use Rattle.std.proofs.Common.{◌≤◌, ◌+ℤ◌, ◌*ℤ◌, get_or, [], sym, ap, ◌∙◌, arith, unsigned_abs}
 use mir.Val.{to_z}
 use mir.Syntax.{w128}
 use Rattle.lie_datum.specs.Vectors.{pairing}
-use Rattle.lie_datum.specs.Entries.{square_sum}
 use Rattle.lie_datum.proofs.TableFilling.{total_take_more, square_is, square_more}
 use Rattle.lie_datum.proofs.tables.square_sum.Goals as goal
 

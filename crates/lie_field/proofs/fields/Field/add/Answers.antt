@@ -1,6 +1,5 @@
 use Rattle.std.proofs.Common.{◌≡◌, ◌+◌, ◌-◌, sym, ap, ◌∙◌}
 use Rattle.lie_field.specs.Quotient.{order, add, power}
-use Rattle.lie_field.specs.FieldTables.{IsZech}
 use Rattle.lie_field.specs.Algebra.FieldTest.{is_lawful}
 use Rattle.lie_field.specs.Algebra.Laws.{add_comm, add_zero}
 use Rattle.lie_field.proofs.Lookups.{sum_by_logs, sum_is_zero}

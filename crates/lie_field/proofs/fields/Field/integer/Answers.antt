@@ -1,10 +1,8 @@
-use Rattle.std.proofs.Common.{◌≡◌, ℕ, ◌%◌, ◌^◌, ◌<◌, true, false, refl, sym, ap, ap₂, ◌∙◌, subst, arith, rules}
+use Rattle.std.proofs.Common.{◌≡◌, ℕ, ◌%◌, ◌^◌, ◌<◌, true, false, refl, sym, ap, ◌∙◌, arith, rules}
 use Rattle.std.specs.Prelude.{ℤ, pos, negsuc, unsigned_abs, int_lt}
-use Rattle.std.specs.Int.{w32, w128}
-use mir.Val.{Fits}
+use Rattle.std.specs.Int.{w128}
 use Rattle.std.proofs.lemmas.Bool.{ltb-true, true≢false}
 use Rattle.std.proofs.lemmas.Int.{to_z-of_z}
-use Rattle.std.proofs.Math.Nat.{mod-lt}
 use Rattle.lie_field.specs.Quotient.{FieldData, order, neg, of_int, IsRingData}
 use Rattle.lie_field.specs.Algebra.Scalars.{of_nat, of_nat-below}
 use Rattle.lie_field.specs.Tables.{data_of, is_field_of}

@@ -1,6 +1,6 @@
-use Rattle.std.proofs.Common.{◌≡◌, ℕ, List, ◌^◌, ◌<◌, ◌≤◌, length, sym, ap, ◌∙◌, T, arith, rules, subst, inl, inr, Vec, Global}
+use Rattle.std.proofs.Common.{◌≡◌, ℕ, List, ◌^◌, ◌<◌, length, sym, ap, ◌∙◌, T, arith, rules, subst, inl, inr, Vec, Global}
 use Rattle.std.proofs.lemmas.Result.{err_from_is_err_and}
-use Rattle.lie_field.specs.Quotient.{field_data, degree, order, IsRingData, IsFieldData}
+use Rattle.lie_field.specs.Quotient.{field_data, degree, order, IsFieldData}
 use Rattle.lie_field.specs.Tables.{IsTables}
 use Rattle.lie_field.specs.FieldTables.{AreTables}
 use Rattle.lie_field.specs.FiniteField.{is_field}

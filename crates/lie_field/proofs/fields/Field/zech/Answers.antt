@@ -1,4 +1,4 @@
-use Rattle.std.proofs.Common.{◌≡◌, ◌<◌, ap, arith, inl, inr}
+use Rattle.std.proofs.Common.{ap, arith, inl, inr}
 use Rattle.lie_field.specs.Quotient.{order}
 use Rattle.lie_field.specs.Tables.{data_of, is_field_of}
 use Rattle.lie_field.proofs.Lookups.{zech_read}

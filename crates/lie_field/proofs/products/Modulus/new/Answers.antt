@@ -1,6 +1,6 @@
-use Rattle.std.proofs.Common.{◌≡◌, ℕ, suc, ◌-◌, ◌/◌, ◌^◌, ◌<◌, ◌≤◌, List, length, sym, ap, ◌∙◌, refl, arith}
+use Rattle.std.proofs.Common.{◌≡◌, ℕ, suc, ◌-◌, ◌/◌, ◌^◌, ◌<◌, List, length, sym, ap, ◌∙◌, refl, arith}
 use Rattle.std.proofs.Math.Nat.{pow-suc, mul-div_cancel}
-use Rattle.lie_field.specs.Quotient.{FieldData, degree, order, leading, field_data, IsRingData}
+use Rattle.lie_field.specs.Quotient.{degree, order, leading, field_data}
 use Rattle.lie_field.proofs.products.Modulus.new.Goals as goal
 
 order_is : (p : ℕ) (cs : List ℕ) (g k q : ℕ) → k ≡ length cs → q ≡ order (field_data p cs g) → q ≡ p ^ k
