@@ -200,25 +200,34 @@ fn failing_streams(rt: HostRuntime) -> Result<(), Fail> {
     Ok(())
 }
 
+// The status over the torus script, filled with LF to so many bytes.
+fn filled(alloc: Global, run: Run<'_>, count: usize) -> Result<(Status, MemSink), Fail> {
+    let mut input = Vec::from_slice(alloc, TORUS.as_bytes())?;
+    input.resize(count, b'\n')?;
+    run.over(alloc, input)
+}
+
 #[test]
-fn the_limit_of_the_input(rt: HostRuntime) -> Result<(), Fail> {
-    // the word, the number of bytes, the output, the status
-    let cases = [
-        ("run", 16_777_216, "loaded 5 1 0 1\n", Status::Done),
-        ("run", 16_777_217, "", Status::TooLong),
-        ("check", 16_777_217, "", Status::TooLong),
-    ];
-    for (word, count, output, status) in cases {
-        let mut input = Vec::from_slice(rt.alloc(), TORUS.as_bytes())?;
-        input.resize(count, b'\n')?;
+fn the_longest_input(rt: HostRuntime) -> Result<(), Fail> {
+    let (status, sink) = filled(rt.alloc(), PLAIN, 16_777_216)?;
+    assert_eq!(rt; status, Status::Done);
+    assert_eq!(rt; sink.bytes(), b"loaded 5 1 0 1\n".as_slice());
+    Ok(())
+}
+
+#[test]
+fn an_input_past_the_limit(rt: HostRuntime) -> Result<(), Fail> {
+    // the word of the command line
+    let cases = ["run", "check"];
+    for word in cases {
         let words = [word];
         let run = Run {
             words: &words,
             ..PLAIN
         };
-        let (ended, sink) = run.over(rt.alloc(), input)?;
-        assert_eq!(rt; ended, status, "at {count}");
-        assert_eq!(rt; sink.bytes(), output.as_bytes(), "at {count}");
+        let (status, sink) = filled(rt.alloc(), run, 16_777_217)?;
+        assert_eq!(rt; status, Status::TooLong, "at {word}");
+        assert_eq!(rt; sink.bytes(), b"".as_slice(), "at {word}");
     }
     Ok(())
 }
