@@ -60,7 +60,7 @@ part mode told left' old new h = subst (λ (z : List ℕ). GrewBy old new (Begin
 begins_nothing : (mode : Mode) (input : List ℕ) (old new : Option (List ℕ)) → new ≡ old → GrewBy old new (BeginsOutput mode input)
 begins_nothing mode input old new same = ([], same ∙ sym (with_none old), ([], [], inl ([], lines_of input, fresh, refl, (refl, refl)), refl))
 
-completes : (mode : Mode) (told : List ℕ) (left' old new : Option (List ℕ)) (read read' write write' : ℕ) (status : Status) → length told ≤ input_limit → ¬ Rose read read' → ¬ Rose write write' 
+completes : (mode : Mode) (told : List ℕ) (left' old new : Option (List ℕ)) (read read' write write' : ℕ) (status : Status) → length told ≤ input_limit → ¬ Rose read read' → ¬ Rose write write'
     → ReadCounts read read' status → WriteCounts write write' status → Cause mode (Some told) left' old new status → Completes mode told old new status
 completes mode told left' old new read read' write write' Done fits r w rc wc h = inl (whole mode told left' old new Done h)
 completes mode told left' old new read read' write write' Refused fits r w rc wc h = inl (whole mode told left' old new Refused h)
@@ -80,7 +80,7 @@ complete_from mode (Some told) left' old new read read' write write' status rc w
 too_long : (told input : List ℕ) (left' : Option (List ℕ)) → input_limit < length told → IsRead (Some told) input left' → ⊥
 too_long told input left' long read = let same : length input ≡ length told = ap length (told_is told input left' read) in omega (arith, long, same, read.within)
 
-exceeds : (mode : Mode) (told : List ℕ) (left' old new : Option (List ℕ)) (read read' : ℕ) (status : Status) → input_limit < length told → ¬ Rose read read' 
+exceeds : (mode : Mode) (told : List ℕ) (left' old new : Option (List ℕ)) (read read' : ℕ) (status : Status) → input_limit < length told → ¬ Rose read read'
     → ReadCounts read read' status → Cause mode (Some told) left' old new status → (status ≡ TooLong) ⊎ (status ≡ NoMemory)
 exceeds mode told left' old new read read' Done long r rc h = absurd (too_long told h.0 left' long h.1)
 exceeds mode told left' old new read read' Refused long r rc h = absurd (too_long told h.0 left' long h.1)

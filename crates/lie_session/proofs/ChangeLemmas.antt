@@ -136,4 +136,3 @@ sound_moved s _ sound loads = record { sized = sound.sized; loaded = sound.loade
 -- what a line brings is sound
 pub sound_from : (s : State) (n : ℕ) (bytes : List ℕ) (reply : Reply) (next : State) → IsSoundState s → Replies s n bytes reply next → IsSoundState next
 sound_from s n bytes reply next sound h = sound_moved s next sound (steps_from s n bytes reply next h).1
-

@@ -42,12 +42,7 @@ fn answer(bytes: Text) -> Reply
 }
 
 /// The text of the form of a word of torus letters.
-fn reply_to_form(
-    alloc: Global,
-    field: &Field,
-    datum: &Datum,
-    w: &Word,
-) -> Result<Text, AllocError>
+fn reply_to_form(alloc: Global, field: &Field, datum: &Datum, w: &Word) -> Result<Text, AllocError>
     requires { IsWordOver (torus_frame field.now datum.now.base.dim) w.now }
     ensures { IfOk result (λ text. FormTextOf field.now datum.now.base.dim w.now text) }
 {
@@ -248,7 +243,12 @@ impl Session {
             DatumFault::Positive(i, j) => {
                 self.refuse(alloc, number, b"positive", &[*i as i128, *j as i128])
             }
-            DatumFault::Zero(i, j) => self.refuse(alloc, number, b"zero", &[*i as i128, *j as i128]),
+            DatumFault::Zero(i, j) => self.refuse(
+                alloc,
+                number,
+                b"zero",
+                &[*i as i128, *j as i128],
+            ),
             DatumFault::Roots => self.refuse(alloc, number, b"roots", &[]),
             DatumFault::Mixed(coefficients) => {
                 self.refuse(alloc, number, b"mixed", &coefficients[..l])

@@ -10,11 +10,7 @@ use lie_script::{Text, put_number, put_spaced};
 use std::alloc::{AllocError, Global};
 
 /// `loaded <elements of the field> <coordinates> <roots> <dimension>`.
-pub(crate) fn loaded_text(
-    alloc: Global,
-    field: &Field,
-    datum: &Datum,
-) -> Result<Text, AllocError>
+pub(crate) fn loaded_text(alloc: Global, field: &Field, datum: &Datum) -> Result<Text, AllocError>
     ensures { IfOk result (λ text. text ≡ text_of_load field.now datum.now) }
 {
     let d = datum.d() as i128;

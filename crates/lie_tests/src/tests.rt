@@ -69,13 +69,32 @@ fn torus_scripts(rt: HostRuntime) -> Result<(), Fail> {
             "loaded 7 2 0 2\n- | 1 4 | - | -\n",
             Status::Done,
         ),
-        ("field 2 1 0 1\ndatum 1 0\n\n", "refused 3 end\n", Status::LoadRefused),
-        ("form 1\nload\n", "refused 1 unloaded\n", Status::LoadRefused),
-        ("field 5 1 0 2\ndatum 1 0\nload x\nload\n", "refused 3 fields 1\n", Status::LoadRefused),
-        ("field 5 1 0 2\ndatum 1 0\nload\nroots\n", "loaded 5 1 0 1\nroots 0\n", Status::Done),
+        (
+            "field 2 1 0 1\ndatum 1 0\n\n",
+            "refused 3 end\n",
+            Status::LoadRefused,
+        ),
+        (
+            "form 1\nload\n",
+            "refused 1 unloaded\n",
+            Status::LoadRefused,
+        ),
+        (
+            "field 5 1 0 2\ndatum 1 0\nload x\nload\n",
+            "refused 3 fields 1\n",
+            Status::LoadRefused,
+        ),
+        (
+            "field 5 1 0 2\ndatum 1 0\nload\nroots\n",
+            "loaded 5 1 0 1\nroots 0\n",
+            Status::Done,
+        ),
     ];
     for (script, output, status) in cases {
-        assert!(rt; runs(rt.alloc(), PLAIN, "", script, output, status)?, "at {script}");
+        assert!(rt;
+            runs(rt.alloc(), PLAIN, "", script, output, status)?,
+            "at {script}"
+        );
     }
     Ok(())
 }
@@ -84,18 +103,37 @@ fn torus_scripts(rt: HostRuntime) -> Result<(), Fail> {
 fn fields(rt: HostRuntime) -> Result<(), Fail> {
     // the first line, the output, the status
     let cases = [
-        ("field 3 2 2 2 3", "loaded 9 1 0 1\n- | 4 | - | -\n", Status::Done),
-        ("field 3 2 1 0 3", "refused 1 generator 4\n", Status::LoadRefused),
-        ("field 4 1 0 3", "refused 1 generator 2\n", Status::LoadRefused),
+        (
+            "field 3 2 2 2 3",
+            "loaded 9 1 0 1\n- | 4 | - | -\n",
+            Status::Done,
+        ),
+        (
+            "field 3 2 1 0 3",
+            "refused 1 generator 4\n",
+            Status::LoadRefused,
+        ),
+        (
+            "field 4 1 0 3",
+            "refused 1 generator 2\n",
+            Status::LoadRefused,
+        ),
         ("field 5 1 0 0", "refused 1 element\n", Status::LoadRefused),
         ("field 257 1 0 3", "refused 1 size\n", Status::LoadRefused),
         ("field 3 0 2", "refused 1 size\n", Status::LoadRefused),
-        ("field 5 1 7 2", "refused 1 coefficient 0\n", Status::LoadRefused),
+        (
+            "field 5 1 7 2",
+            "refused 1 coefficient 0\n",
+            Status::LoadRefused,
+        ),
         ("field 5 1 x", "refused 1 number 11\n", Status::LoadRefused),
     ];
     for (field, output, status) in cases {
         let rest = "\ndatum 1 0\nload\nform h(3) h(3)\n";
-        assert!(rt; runs(rt.alloc(), PLAIN, field, rest, output, status)?, "at {field}");
+        assert!(rt;
+            runs(rt.alloc(), PLAIN, field, rest, output, status)?,
+            "at {field}"
+        );
     }
     Ok(())
 }
@@ -104,14 +142,20 @@ fn fields(rt: HostRuntime) -> Result<(), Fail> {
 fn lists_of_roots(rt: HostRuntime) -> Result<(), Fail> {
     // the script up to `load`, the output with `roots`
     let cases = [
-        (SL3, "loaded 3 2 6 -\nroots 3\n1 1 0 | 2 -1 | 1 0\n2 0 1 | -1 2 | 0 1\n3 1 1 | 1 1 | 1 1\n"),
+        (
+            SL3,
+            "loaded 3 2 6 -\nroots 3\n1 1 0 | 2 -1 | 1 0\n2 0 1 | -1 2 | 0 1\n3 1 1 | 1 1 | 1 1\n",
+        ),
         (
             B2,
             "loaded 3 2 8 -\nroots 4\n1 1 0 | 2 -1 | 1 0\n2 0 1 | -2 2 | 0 1\n3 1 1 | 0 1 | 1 2\n4 2 1 | 2 0 | 1 1\n",
         ),
     ];
     for (front, output) in cases {
-        assert!(rt; runs(rt.alloc(), PLAIN, front, "roots\n", output, Status::Done)?, "at {front}");
+        assert!(rt;
+            runs(rt.alloc(), PLAIN, front, "roots\n", output, Status::Done)?,
+            "at {front}"
+        );
     }
     Ok(())
 }
@@ -121,19 +165,50 @@ fn refused_data(rt: HostRuntime) -> Result<(), Fail> {
     // the lines after `field 5 1 0 2`, the output
     let cases = [
         ("datum 1 1\nroot 1\ncoroot 1\n", "refused 4 pairing 1 1\n"),
-        ("datum 2 2\nroot 2 -2\nroot -2 2\ncoroot 1 0\ncoroot 0 1\n", "refused 6 roots\n"),
-        ("datum 2 2\nroot 2 1\nroot 1 2\ncoroot 1 0\ncoroot 0 1\n", "refused 6 positive 1 2\n"),
-        ("datum 2 2\nroot 2 0\nroot -1 2\ncoroot 1 0\ncoroot 0 1\n", "refused 6 zero 1 2\n"),
-        ("datum 1 1\nroot 101\ncoroot 1\nform 1\n", "refused 4 entry root 1 1\n"),
-        ("datum 1 1\nroot 2\ncoroot -101\n", "refused 4 entry coroot 1 1\n"),
+        (
+            "datum 2 2\nroot 2 -2\nroot -2 2\ncoroot 1 0\ncoroot 0 1\n",
+            "refused 6 roots\n",
+        ),
+        (
+            "datum 2 2\nroot 2 1\nroot 1 2\ncoroot 1 0\ncoroot 0 1\n",
+            "refused 6 positive 1 2\n",
+        ),
+        (
+            "datum 2 2\nroot 2 0\nroot -1 2\ncoroot 1 0\ncoroot 0 1\n",
+            "refused 6 zero 1 2\n",
+        ),
+        (
+            "datum 1 1\nroot 101\ncoroot 1\nform 1\n",
+            "refused 4 entry root 1 1\n",
+        ),
+        (
+            "datum 1 1\nroot 2\ncoroot -101\n",
+            "refused 4 entry coroot 1 1\n",
+        ),
         ("datum 1 1\nroot 2\n", "refused 3 end\n"),
         ("datum 9 0\nload\n", "refused 2 size\n"),
-        ("datum 1 1\n# a root\n\nroot 2 0\ncoroot 1\n", "refused 5 fields 2\n"),
+        (
+            "datum 1 1\n# a root\n\nroot 2 0\ncoroot 1\n",
+            "refused 5 fields 2\n",
+        ),
         ("datum 1 1\ncoroot 1\nroot 2\n", "refused 3 order\n"),
-        ("datum 1 1\nroot 2\nroots\ncoroot 1\n", "refused 4 unloaded\n"),
+        (
+            "datum 1 1\nroot 2\nroots\ncoroot 1\n",
+            "refused 4 unloaded\n",
+        ),
     ];
     for (lines, output) in cases {
-        assert!(rt; runs(rt.alloc(), PLAIN, "field 5 1 0 2\n", lines, output, Status::LoadRefused)?, "at {lines}");
+        assert!(rt;
+            runs(
+                rt.alloc(),
+                PLAIN,
+                "field 5 1 0 2\n",
+                lines,
+                output,
+                Status::LoadRefused
+            )?,
+            "at {lines}"
+        );
     }
     Ok(())
 }
@@ -142,15 +217,42 @@ fn refused_data(rt: HostRuntime) -> Result<(), Fail> {
 fn refused_commands(rt: HostRuntime) -> Result<(), Fail> {
     // line 6 after SL2, and what it gives after the reply to `load`
     let cases = [
-        ("form h(0)", "loaded 5 1 2 -\nrefused 6 torus 6\n", Status::Refused),
-        ("form y1", "loaded 5 1 2 -\nrefused 6 letter 6\n", Status::Refused),
-        ("form", "loaded 5 1 2 -\nrefused 6 fields 0\n", Status::Refused),
-        ("fomr 1", "loaded 5 1 2 -\nrefused 6 command 1\n", Status::Refused),
-        ("load\nform 1", "loaded 5 1 2 -\nrefused 6 order\n- | 1 | - | -\n", Status::Refused),
-        ("# form y1\nform h(4) h(4)", "loaded 5 1 2 -\n- | 1 | - | -\n", Status::Done),
+        (
+            "form h(0)",
+            "loaded 5 1 2 -\nrefused 6 torus 6\n",
+            Status::Refused,
+        ),
+        (
+            "form y1",
+            "loaded 5 1 2 -\nrefused 6 letter 6\n",
+            Status::Refused,
+        ),
+        (
+            "form",
+            "loaded 5 1 2 -\nrefused 6 fields 0\n",
+            Status::Refused,
+        ),
+        (
+            "fomr 1",
+            "loaded 5 1 2 -\nrefused 6 command 1\n",
+            Status::Refused,
+        ),
+        (
+            "load\nform 1",
+            "loaded 5 1 2 -\nrefused 6 order\n- | 1 | - | -\n",
+            Status::Refused,
+        ),
+        (
+            "# form y1\nform h(4) h(4)",
+            "loaded 5 1 2 -\n- | 1 | - | -\n",
+            Status::Done,
+        ),
     ];
     for (line, output, status) in cases {
-        assert!(rt; runs(rt.alloc(), PLAIN, SL2, line, output, status)?, "at {line}");
+        assert!(rt;
+            runs(rt.alloc(), PLAIN, SL2, line, output, status)?,
+            "at {line}"
+        );
     }
     Ok(())
 }
@@ -164,15 +266,52 @@ fn checks(rt: HostRuntime) -> Result<(), Fail> {
     // the run, the script, its output, its status
     let cases = [
         (check, "form h(0)\nfomr\n", "loaded 5 1 0 1\n", Status::Done),
-        (Run { pulls: &[2], piece: 29, ..check }, "form 1\n", "", Status::ReadFault),
-        (Run { pushes: &[1], ..check }, "form 1\n", "", Status::WriteFault),
-        (Run { words: &["check", "check"], ..PLAIN }, "form 1\n", "", Status::Usage),
+        (
+            Run {
+                pulls: &[2],
+                piece: 29,
+                ..check
+            },
+            "form 1\n",
+            "",
+            Status::ReadFault,
+        ),
+        (
+            Run {
+                pushes: &[1],
+                ..check
+            },
+            "form 1\n",
+            "",
+            Status::WriteFault,
+        ),
+        (
+            Run {
+                words: &["check", "check"],
+                ..PLAIN
+            },
+            "form 1\n",
+            "",
+            Status::Usage,
+        ),
     ];
     for (run, script, output, status) in cases {
-        assert!(rt; runs(rt.alloc(), run, TORUS, script, output, status)?, "at {script}");
+        assert!(rt;
+            runs(rt.alloc(), run, TORUS, script, output, status)?,
+            "at {script}"
+        );
     }
     let cut = "field 5 1 0 2\ndatum 1 0\n";
-    assert!(rt; runs(rt.alloc(), check, cut, "", "refused 2 end\n", Status::LoadRefused)?);
+    assert!(rt;
+        runs(
+            rt.alloc(),
+            check,
+            cut,
+            "",
+            "refused 2 end\n",
+            Status::LoadRefused
+        )?
+    );
     Ok(())
 }
 
@@ -180,16 +319,83 @@ fn checks(rt: HostRuntime) -> Result<(), Fail> {
 fn failing_streams(rt: HostRuntime) -> Result<(), Fail> {
     // the run over the first worked row, its output, its status
     let cases = [
-        (Run { piece: 1, ..PLAIN }, "loaded 5 1 0 1\n- | 1 | - | -\n", Status::Done),
-        (Run { pulls: &[1], ..PLAIN }, "", Status::ReadFault),
-        (Run { pulls: &[2], ..PLAIN }, "", Status::ReadFault),
-        (Run { pushes: &[1], ..PLAIN }, "", Status::WriteFault),
-        (Run { pushes: &[2], ..PLAIN }, "loaded 5 1 0 1\n", Status::WriteFault),
-        (Run { words: &["demo", "0"], ..PLAIN }, "", Status::Usage),
-        (Run { words: &["demo", "01"], ..PLAIN }, "", Status::Usage),
-        (Run { words: &["walk"], ..PLAIN }, "", Status::Usage),
-        (Run { words: &[], ..PLAIN }, "", Status::Usage),
-        (Run { words: &["run", "run"], ..PLAIN }, "", Status::Usage),
+        (
+            Run { piece: 1, ..PLAIN },
+            "loaded 5 1 0 1\n- | 1 | - | -\n",
+            Status::Done,
+        ),
+        (
+            Run {
+                pulls: &[1],
+                ..PLAIN
+            },
+            "",
+            Status::ReadFault,
+        ),
+        (
+            Run {
+                pulls: &[2],
+                ..PLAIN
+            },
+            "",
+            Status::ReadFault,
+        ),
+        (
+            Run {
+                pushes: &[1],
+                ..PLAIN
+            },
+            "",
+            Status::WriteFault,
+        ),
+        (
+            Run {
+                pushes: &[2],
+                ..PLAIN
+            },
+            "loaded 5 1 0 1\n",
+            Status::WriteFault,
+        ),
+        (
+            Run {
+                words: &["demo", "0"],
+                ..PLAIN
+            },
+            "",
+            Status::Usage,
+        ),
+        (
+            Run {
+                words: &["demo", "01"],
+                ..PLAIN
+            },
+            "",
+            Status::Usage,
+        ),
+        (
+            Run {
+                words: &["walk"],
+                ..PLAIN
+            },
+            "",
+            Status::Usage,
+        ),
+        (
+            Run {
+                words: &[],
+                ..PLAIN
+            },
+            "",
+            Status::Usage,
+        ),
+        (
+            Run {
+                words: &["run", "run"],
+                ..PLAIN
+            },
+            "",
+            Status::Usage,
+        ),
     ];
     for (run, output, status) in cases {
         let input = Vec::from_slice(rt.alloc(), PRODUCT.as_bytes())?;
@@ -249,7 +455,11 @@ fn the_limits_of_a_line(rt: HostRuntime) -> Result<(), Fail> {
         }
         script.extend_from_slice(end.as_bytes())?;
         let (status, _sink) = PLAIN.over(rt.alloc(), script)?;
-        let wanted = if accepted { Status::Done } else { Status::Refused };
+        let wanted = if accepted {
+            Status::Done
+        } else {
+            Status::Refused
+        };
         assert_eq!(rt; status, wanted, "at {count}");
     }
     // the number of letters `h(2)`, the output behind that of `load`
