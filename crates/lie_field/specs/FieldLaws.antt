@@ -1,5 +1,5 @@
 -- The laws of finite fields and of the faults, as statements. `src/laws.rt` publishes each.
--- Source: Lidl and Niederreiter, Finite Fields, chapters 1 and 2.
+-- Source: any text on finite fields, as that of Lidl and Niederreiter.
 --
 --   Z[x]                  lists of coefficients, from the constant coefficient up
 --   the quotient map      element f          from Z[x] to the numbers below q

@@ -1,5 +1,5 @@
 -- The tables that the operations of a field are read from.
--- Source: Lidl and Niederreiter, Finite Fields, chapter 10 (Zech's logarithm, there called Jacobi's).
+-- Source: any text on finite fields, as that of Lidl and Niederreiter (Zech's logarithm).
 use Rattle.std.specs.Prelude.{◌≡◌, ℕ, zero, suc, ◌-◌, ◌<◌, List, Option, Some, None, length, get_or}
 use Rattle.lie_field.specs.Quotient.{FieldData, order, add, neg, power}
 use Rattle.lie_field.specs.declared.tables.Tables.{Tables}
