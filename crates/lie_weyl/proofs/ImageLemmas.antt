@@ -12,7 +12,7 @@ use Rattle.lie_datum.specs.RootList.{Roots, IsLoaded, IsNumber, root_of, NamesRo
 use Rattle.lie_datum.proofs.SignedRoots.{root_is, same_coeffs, same_number}
 use Rattle.lie_weyl.specs.Padding.{IsPadded}
 use Rattle.lie_weyl.specs.WeylElement.{moved, Spells, AreLetters}
-use Rattle.lie_datum.proofs.Entries.{entry-plus, entry-times, same_entries}
+use Rattle.lie_datum.proofs.Entries.{within_or_past, entry-plus, entry-times, same_entries}
 use Rattle.lie_datum.proofs.VectorLemmas.{entry-combination, length-combination}
 use Rattle.lie_datum.proofs.LoadedLaws.{short}
 use Rattle.lie_weyl.proofs.Words.{IsWord, is_word, lengths, IsRoot-moved}
@@ -90,17 +90,12 @@ module _ (d : Roots) (l : ℕ) (images : List ℤ) (low : l ≤ 8) (places : len
       }
 
 -- ---- one place more is written
-below_or : (j k : ℕ) → (j < k) ⊎ (k ≤ j)
-below_or j zero = inr (omega arith)
-below_or zero (suc k) = inl (omega arith)
-below_or (suc j) (suc k) = ⊎_elim (λ m. inl (omega (arith, m))) (λ m. inr (omega (arith, m))) (below_or j k)
-
 -- what holds of the places below k, and of what is written at k
 pub below_more : {A : Type 0} (P : A → ℕ → Type 0) (xs : List A) (z : A) (k : ℕ) (y : A) → k < length xs → ((j : ℕ) → j < k → P (get_or xs j y) j) → P z k → (j : ℕ) → j < k + 1 → P (get_or (set xs k z) j y) j
 below_more P xs z k y within h p j l =
     ⊎_elim (λ m. subst (λ t. P t j) (sym (get_or-set_other xs k j z y (λ e. absurd (omega (arith, m, e))))) (h j m))
     (λ m. (let same : k ≡ j = omega (arith, m, l) in subst (λ i. P (get_or (set xs k z) i y) i) same (subst (λ t. P t k) (sym (get_or-set_same xs k z y within)) p)))
-    (below_or j k)
+    (within_or_past j k)
 
 -- the first k places are filled by steps from the old ones, and the rest are the old ones
 pub record IsFilled (d : Roots) (P : Root → Root → Type 0) (old new : List ℤ) (k : ℕ) : Type 0 where
@@ -135,8 +130,8 @@ read_at images k x p h = get_or_default images k x (pos 1) (omega (arith, p, h))
 kept : (P : Vector → Type 0) (vs : List Vector) (v : Vector) (k : ℕ) → k < length vs → ((j : ℕ) → P (get_or vs j [])) → P v → (j : ℕ) → P (get_or (set vs k v) j [])
 kept P vs v k l h w j =
     ⊎_elim (λ m. other (λ e. absurd (omega (arith, m, e))))
-    (λ m. ⊎_elim (λ n. other (λ e. absurd (omega (arith, n, e)))) (λ n. (let same : k ≡ j = omega (arith, m, n) in subst (λ i. P (get_or (set vs k v) i [])) same (subst P (sym (get_or-set_same vs k v [] l)) w))) (below_or k j))
-    (below_or j k)
+    (λ m. ⊎_elim (λ n. other (λ e. absurd (omega (arith, n, e)))) (λ n. (let same : k ≡ j = omega (arith, m, n) in subst (λ i. P (get_or (set vs k v) i [])) same (subst P (sym (get_or-set_same vs k v [] l)) w))) (within_or_past k j))
+    (within_or_past j k)
   where
     other : ¬ (j ≡ k) → P (get_or (set vs k v) j [])
     other n = subst P (sym (get_or-set_other vs k j v [] n)) (h j)
