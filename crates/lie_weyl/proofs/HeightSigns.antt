@@ -2,6 +2,7 @@
 use Rattle.std.proofs.Common.{◌≡◌, ℕ, zero, suc, ◌+◌, ◌-◌, ◌*◌, ◌<◌, ◌≤◌, ℤ, pos, negsuc, neg_ℤ, ◌+ℤ◌, ◌-ℤ◌, ◌*ℤ◌, ◌≤ℤ◌, ◌<ℤ◌, List, [], ◌∷◌, ◌++◌, length, get_or, unsigned_abs, refl, sym, ap, subst, ◌∙◌, arith, ◌⊎◌, inl, inr, ⊎_elim}
 use Rattle.std.proofs.lemmas.Int.{ints, by_lt_z}
 use Rattle.std.specs.List.{All}
+use Rattle.std.proofs.lemmas.List.{get_or_default}
 use Rattle.lie_datum.specs.declared.root_pair.Root.{Root}
 use Rattle.lie_datum.specs.Vectors.{Vector, plus, times, minus, unit, entry, total}
 use Rattle.lie_datum.specs.RootDatum.{rank, simple, reflected, opposite, IsSimpleIndex, IsRoot, is_simple, is_reflected, IsPositive, IsWithin}
@@ -83,12 +84,17 @@ module _ (d : Roots) (loaded : IsLoaded d) where
       ∙ ap (λ x. height (moved d.base w (simple j)) +ℤ x *ℤ entry heights (i - 1)) less ∙ ap (λ x. height (moved d.base w (simple j)) +ℤ k *ℤ x) (at i s)
       ∙ sym (height_turned w i (simple j) h s p) ∙ ap height (sym (moved-append d.base w (i ∷ []) (simple j)))
 
+  -- a height below 0 stands at a simple root
+  pub negative_index : (heights : Vector) (k : ℕ) → EndsAtRank d heights → IsFirstNegative heights k → IsSimpleIndex d.base (k + 1)
+  negative_index heights k ends f =
+      let below = f.below in
+      ⊎_elim (λ l. (omega arith, omega (arith, l))) (λ l. (let z = ends k l in absurd (omega (arith, ints, z, below)))) (within_or_past k (rank d.base))
+
   -- the first height below 0 is that of the least descent
   pub first_descent : (w : List ℕ) (heights : Vector) (k : ℕ) → IsWord d.base w → AreHeights d w heights → EndsAtRank d heights → IsFirstNegative heights k → IsLeastDescent d w (k + 1)
   first_descent w heights k h at ends f =
       let below = f.below in
-      let inside : k < rank d.base = ⊎_elim (λ l. l) (λ l. (let z = ends k l in absurd (omega (arith, ints, z, below)))) (within_or_past k (rank d.base)) in
-      let s : IsSimpleIndex d.base (k + 1) = (omega arith, omega (arith, inside)) in
+      let s = negative_index heights k ends f in
       let e : k + 1 - 1 ≡ k = omega arith in
       record {
         index = s;
@@ -104,9 +110,12 @@ module _ (d : Roots) (loaded : IsLoaded d) where
       positive_by_height (moved d.base w (simple i)) (IsRoot-moved d loaded w (simple i) h (is_simple i s)) (let x = at i s in let y = up (i - 1) in omega (arith, ints, x, y))
 
   -- heights of images of roots are small
-  pub heights_small : (w : List ℕ) (heights : Vector) → IsWord d.base w → AreHeights d w heights → EndsAtRank d heights → (k : ℕ) → unsigned_abs (entry heights k) ≤ 800
-  heights_small w heights h at ends k =
-      ⊎_elim (λ l. (let s : IsSimpleIndex d.base (k + 1) = (omega arith, omega (arith, l)) in
-      let e : k + 1 - 1 ≡ k = omega arith in
-      subst (λ t. unsigned_abs t ≤ 800) (sym (at (k + 1) s) ∙ ap (entry heights) e) (height_within (moved d.base w (simple (k + 1))) (IsRoot-moved d loaded w (simple (k + 1)) h (is_simple (k + 1) s)))))
-      (λ l. subst (λ t. unsigned_abs t ≤ 800) (sym (ends k l)) (omega arith)) (within_or_past k (rank d.base))
+  pub heights_small : (w : List ℕ) (heights : Vector) → IsWord d.base w → AreHeights d w heights → EndsAtRank d heights → IsWithin 800 heights
+  heights_small w heights h at ends k e l = subst (λ t. unsigned_abs t ≤ 800) (get_or_default heights k (pos 0) e l) (small_at k)
+    where
+      small_at : (k : ℕ) → unsigned_abs (entry heights k) ≤ 800
+      small_at k =
+          ⊎_elim (λ l. (let s : IsSimpleIndex d.base (k + 1) = (omega arith, omega (arith, l)) in
+          let e : k + 1 - 1 ≡ k = omega arith in
+          subst (λ t. unsigned_abs t ≤ 800) (sym (at (k + 1) s) ∙ ap (entry heights) e) (height_within (moved d.base w (simple (k + 1))) (IsRoot-moved d loaded w (simple (k + 1)) h (is_simple (k + 1) s)))))
+          (λ l. subst (λ t. unsigned_abs t ≤ 800) (sym (ends k l)) (omega arith)) (within_or_past k (rank d.base))

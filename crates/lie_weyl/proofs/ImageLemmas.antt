@@ -97,6 +97,10 @@ below_more P xs z k y within h p j l =
     (λ m. (let same : k ≡ j = omega (arith, m, l) in subst (λ i. P (get_or (set xs k z) i y) i) same (subst (λ t. P t k) (sym (get_or-set_same xs k z y within)) p)))
     (within_or_past j k)
 
+-- the places behind k stay as they were
+pub behind_more : {A : Type 0} (xs old : List A) (z : A) (k : ℕ) (y : A) → ((j : ℕ) → k ≤ j → get_or xs j y ≡ get_or old j y) → (j : ℕ) → k + 1 ≤ j → get_or (set xs k z) j y ≡ get_or old j y
+behind_more xs old z k y h j l = get_or-set_other xs k j z y (λ e. absurd (omega (arith, l, e))) ∙ h j (omega (arith, l))
+
 -- the first k places are filled by steps from the old ones, and the rest are the old ones
 pub record IsFilled (d : Roots) (P : Root → Root → Type 0) (old new : List ℤ) (k : ℕ) : Type 0 where
   pub places : length new ≡ 8
@@ -111,7 +115,7 @@ module _ (d : Roots) (P : Root → Root → Type 0) (old : List ℤ) where
   filled_more new k z within f s = record {
     places = length-set new k z ∙ f.places;
     done = below_more (λ y j. IsStep d P (get_or old j (pos 1)) y) new z k (pos 1) (let e = f.places in omega (arith, within, e)) f.done s;
-    rest = λ j l. get_or-set_other new k j z (pos 1) (λ e. absurd (omega (arith, l, e))) ∙ f.rest j (omega (arith, l));
+    rest = behind_more new old z k (pos 1) f.rest;
   }
 
 -- filled places behind which the old ones are unused

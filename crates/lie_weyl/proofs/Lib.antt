@@ -5,4 +5,7 @@ pub mod Exchange
 pub mod LengthLemmas
 pub mod DescentLemmas
 pub mod HeightSigns
+pub mod HeightSums
+pub mod DescentRuns
+pub mod ElementLemmas
 pub mod ImageLemmas

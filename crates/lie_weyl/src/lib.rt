@@ -7,6 +7,7 @@
 //! stands on `lie_datum`, whose tables it reads, and on `arrayvec` for words that need no memory.
 #![tactic(auto)]
 
+mod descents;
 mod simple;
 mod weyl;
 

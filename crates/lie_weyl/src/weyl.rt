@@ -1,13 +1,17 @@
 //! The elements of the Weyl group.
 
-ghost use Rattle.std.specs.Prelude.{◌≡◌, ◌↔◌, ◌-◌, ◌∷◌, ◌++◌, [], ℕ, ℤ, List, IsTrue, length, slice_index_or};
+ghost use Rattle.std.specs.Prelude.{◌≡◌, ◌↔◌, ◌-◌, ◌∷◌, ◌++◌, [], ℕ, ℤ, List, IsTrue, IfOk, MatchOption, length, reverse, slice_index_or};
 ghost use Rattle.std.specs.List.{All};
-ghost use Rattle.lie_datum.specs.RootDatum.{IsSimpleIndex, IsWithin, simple};
+ghost use Rattle.lie_datum.specs.RootDatum.{IsSimpleIndex, IsWithin, rank, simple};
 ghost use Rattle.lie_datum.specs.RootList.{IsNumber, root_of};
-ghost use Rattle.lie_weyl.specs.WeylElement.{moved, AreLetters, Spells, IsElement};
+ghost use Rattle.lie_weyl.specs.WeylElement.{moved, AreLetters, Spells, IsElement, IsLength, IsLeastWord};
+ghost use Rattle.lie_weyl.specs.Descents.{IsLeastOf};
 
+use crate::descents::{descents, heights};
 use crate::simple::simple_root;
+use arrayvec::ArrayVec;
 use lie_datum::{Datum, RootId, Vector, combination};
+use std::alloc::{AllocError, Global};
 use std::marker::Model;
 
 /// A product of simple reflections, by the images of the simple roots.
@@ -84,6 +88,14 @@ impl Weyl {
         Weyl { l, images }
     }
 
+    /// The inverse: its word is read off the descents of the element.
+    pub fn inverse(&self, datum: &Datum) -> Weyl
+        requires { IsElement datum.now self.now }
+        ensures { (w : List ℕ) → Spells datum.now w self.now → Spells datum.now (reverse w) result }
+    {
+        Weyl::from_word(datum, &self.inverse_word(datum))
+    }
+
     /// The image of a root: the combination of the images of the simple roots, looked up by its
     /// coefficients.
     pub fn image(&self, datum: &Datum, r: RootId) -> RootId
@@ -117,6 +129,42 @@ impl Weyl {
         vectors
     }
 
+    /// The images of the simple roots.
+    fn images(&self) -> &[RootId]
+        ensures { result.now ≡ self.now }
+    {
+        &self.images[..self.l]
+    }
+
+    /// The least word of the inverse.
+    fn inverse_word(&self, datum: &Datum) -> ArrayVec<u8, 120>
+        requires { IsElement datum.now self.now }
+        ensures letters { AreLetters datum.now.base result.items }
+        ensures least { (w : List ℕ) → Spells datum.now w self.now → IsLeastOf datum.now (reverse w) result.items }
+    {
+        datum.loaded();
+        descents(datum, &heights(datum, self.images()))
+    }
+
+    /// The length: so many letters has each shortest word.
+    pub fn length(&self, datum: &Datum) -> usize
+        requires { IsElement datum.now self.now }
+        ensures { IsLength datum.now self.now result }
+    {
+        datum.loaded();
+        self.inverse_word(datum).len()
+    }
+
+    /// The lexicographically least of the shortest words; letters count from 1, and the last acts
+    /// first.
+    pub fn least_word(&self, alloc: Global, datum: &Datum) -> Result<Vec<u8>, AllocError>
+        requires { IsElement datum.now self.now }
+        ensures { IfOk result (λ word. IsLeastWord datum.now word.items self.now) }
+    {
+        datum.loaded();
+        copied(alloc, &self.inverse(datum).inverse_word(datum))
+    }
+
     /// Whether two elements of one datum are equal.
     pub fn same(&self, b: &Weyl) -> bool
         ensures { IsTrue result ↔ (self.now ≡ b.now) }
@@ -136,4 +184,23 @@ impl Weyl {
         }
         product
     }
+
+    /// The element that sends the simple roots to these images, that of a_i at place i - 1.
+    pub fn from_images(datum: &Datum, images: &[RootId]) -> Option<Weyl>
+        requires count { length images.now ≡ rank datum.now.base }
+        requires numbers { All (IsNumber datum.now) images.now }
+        ensures { MatchOption result (¬ IsElement datum.now images.now) (λ w. (w ≡ images.now) × IsElement datum.now w) }
+    {
+        datum.loaded();
+        let word = descents(datum, &heights(datum, images));
+        let w = Weyl::from_word(datum, &word).inverse(datum);
+        if w.images() == images { Some(w) } else { None }
+    }
+}
+
+/// The word in memory of its own.
+fn copied(alloc: Global, word: &[u8]) -> Result<Vec<u8>, AllocError>
+    ensures { IfOk result (λ copy. copy.items ≡ word.now) }
+{
+    word.iter().copied().collect(alloc)
 }
