@@ -14,7 +14,7 @@ use Rattle.lie_weyl.specs.WeylElement.{moved, SameProduct, is_negative, word_len
 use Rattle.lie_weyl.proofs.Words.{IsWord, empty, letter, IsWord-append, one_letter, IsWord-reverse, reverse-cons, IsRoot-moved, moved-append, reverse_moved, moved_reverse, reverse_same, twice}
 use Rattle.lie_weyl.proofs.Linearity.{moved_same}
 use Rattle.lie_weyl.proofs.Signs.{positive_test, negative_test, turned_negative, turned_positive, simple_up}
-use Rattle.lie_weyl.proofs.Exchange.{exchange, exchanged_length, exchanged_same}
+use Rattle.lie_weyl.proofs.ExchangeLemmas.{exchange, exchanged_length, exchanged_same}
 
 -- 1 where the test holds
 abbrev ones : {A : Type 0} → (A → Bool) → A → ℤ

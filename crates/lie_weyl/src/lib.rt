@@ -8,7 +8,9 @@
 #![tactic(auto)]
 
 mod descents;
+mod laws;
 mod simple;
 mod weyl;
 
+pub use laws::{exchange, greedy_is_least, inverse_lengths, one_factor_more, shortest_words};
 pub use weyl::Weyl;
