@@ -1,26 +1,24 @@
 -- How the positive roots are picked and sorted, and the greatest mixed vector found.
-use Rattle.std.proofs.Common.{◌≡◌, ◌≢◌, ℕ, zero, suc, ◌+◌, ◌<◌, ◌≤◌, ℤ, pos, Bool, true, false, List, [], ◌∷◌, ◌++◌, length, get_or, take, map, refl, sym, ap, subst, ◌∙◌, arith, ◌⊎◌, inl, inr, ⊎_elim, length-append, Option, None, Some, Result, Ok, Err, IfOk}
-use Rattle.std.proofs.lemmas.List.{get_or_append_left, get_or-append-add, get_or_default, take_more, take_all}
+use Rattle.std.proofs.Common.{◌≡◌, ◌≢◌, ℕ, ◌+◌, ◌<◌, pos, Bool, false, List, [], ◌∷◌, ◌++◌, length, get_or, map, refl, sym, ap, subst, ◌∙◌, arith, ◌⊎◌, ⊎_elim, length-append, Option, None, Some, Result, Ok, Err, IfOk}
+use Rattle.std.proofs.lemmas.List.{get_or_append_left, get_or-append-add}
 use Rattle.std.proofs.Math.ListN.{length-map, get_or-map}
 use Rattle.std.proofs.lemmas.List.Sorted.{IsPermutation-map, IsPermutation-sym, Contains-permutation, All-permutation}
 use Rattle.std.proofs.lemmas.Map.Keys.{IsDistinct-from_apart, IsDistinct-IsPermutation, apart_from_distinct, sorted_from_all_adjacent}
-use Rattle.std.specs.Cmp.{IsTotalOrder}
 use Rattle.std.specs.List.{All, Contains, IsDistinct}
 use Rattle.std.specs.List.Sorted.{IsPermutation, IsSorted, IsStrictlySortedBy}
-use Rattle.std.specs.Ordering.{int_cmp, eq_by_cmp, is_eq, is_lt, is_gt, ordering_reverse, ordering_then}
+use Rattle.std.specs.Ordering.{int_cmp, eq_by_cmp, is_eq, is_lt, ordering_reverse, ordering_then}
 use Rattle.std.specs.Cmp.Lexicographic.{slice_cmp}
 use Rattle.std.specs.declared.cmp.Ordering.{Ordering}
 use Rattle.std.specs.declared.cmp.Ordering.TheVariants.{Less, Equal, Greater}
 use Rattle.lie_datum.specs.declared.listing.Ranked.{Ranked}
 use Rattle.lie_datum.specs.Vectors.{Vector}
-use Rattle.lie_datum.specs.RootDatum.{Base, Root, IsRoot, IsPositive, IsMixed, IsUnmixed, IsCartan, IsFinite, IsSmall, opposite}
+use Rattle.lie_datum.specs.RootDatum.{Base, Root, IsPositive, IsMixed, IsUnmixed, IsFinite, IsSmall}
 use Rattle.lie_datum.specs.RootList.{root_cmp, height, IsPositiveList}
-use Rattle.lie_datum.specs.Closure.{IsDistinctList, ListsRoots, IsClosing}
+use Rattle.lie_datum.specs.Closure.{IsDistinctList, ListsRoots}
 use Rattle.lie_datum.specs.Load.{IsGreatestMixed}
 use Rattle.lie_datum.specs.Listing.{IsPicked, IsRanked, ranked_root, IsGreatestMixedIn, IsGreatestMixedOf}
-use Rattle.lie_datum.proofs.Members.{In}
 use Rattle.lie_datum.proofs.Roots.{same_root}
-use Rattle.lie_datum.proofs.ClosureLemmas.{contains_from_in, in_from_contains, in_at, in_last, roots_push, distinct_push, Contains-append, split_last}
+use Rattle.lie_datum.proofs.ClosureLemmas.{contains_from_in, in_at, in_last, roots_push, distinct_push, Contains-append}
 use Rattle.lie_datum.proofs.RootOrder.{root_total, slices_total, equal_slices, not_above}
 use Rattle.std.proofs.lemmas.Cmp.{tied_itself}
 
@@ -29,11 +27,12 @@ pub distinct_front : (xs : List Root) (x : Root) → IsDistinctList (xs ++ x ∷
 distinct_front xs x h = (
   (λ j k d l m e. h j k d l (omega (arith, m, length-append xs (x ∷ []))) (get_or_append_left xs (x ∷ []) d j (omega (arith, l, m)) ∙ e ∙ sym (get_or_append_left xs (x ∷ []) d k m))),
   λ c. (let low = c.1 in
-  h c.0 (length xs + 0) x (omega (arith, low)) (omega (arith, length-append xs (x ∷ []))) (get_or_append_left xs (x ∷ []) x c.0 low ∙ c.2 ∙ sym (get_or-append-add xs (x ∷ []) 0 x))),
+      h c.0 (length xs + 0) x (omega (arith, low)) (omega (arith, length-append xs (x ∷ []))) (get_or_append_left xs (x ∷ []) x c.0 low ∙ c.2 ∙ sym (get_or-append-add xs (x ∷ []) 0 x))),
 )
 
 -- ---- picking
 module _ (P : Root → Type 0) where
+  -- at the start, one member that is picked, and one that isn't
   pub picked_none : IsPicked P [] []
   picked_none = record { only = λ r c. absurd (let l = c.1 in omega (arith, l)); every = λ r c p. c; once = λ h. h }
 
@@ -52,6 +51,7 @@ module _ (P : Root → Type 0) where
   }
 
 -- ---- sorting
+-- roots that tie are equal
 equal_order : (r s : Root) → root_cmp r s ≡ Equal → r ≡ s
 equal_order r s e = first (int_cmp (height r) (height s)) e
   where
@@ -71,6 +71,7 @@ equal_order r s e = first (int_cmp (height r) (height s)) e
 abbrev ties : Root → Root → Bool
 ties = eq_by_cmp root_cmp
 
+-- ties go both ways
 flips : (r s : Root) → ties r s ≡ ties s r
 flips r s = ap is_eq (root_total.antisymm r s) ∙ back (root_cmp s r)
   where
@@ -79,6 +80,7 @@ flips r s = ap is_eq (root_total.antisymm r s) ∙ back (root_cmp s r)
     back Equal = refl
     back Greater = refl
 
+-- different roots do not tie
 apart_list : (xs : List Root) → IsDistinctList xs → IsDistinct ties xs
 apart_list xs h = IsDistinct-from_apart ties xs (λ i j d l m. by (get_or xs i d) (get_or xs j d) (root_cmp (get_or xs i d) (get_or xs j d)) refl (h i j d l m))
   where
@@ -141,15 +143,18 @@ module _ (cmp : Ranked → Ranked → Ordering) (is : (x y : Ranked) → IsRanke
 abbrev pub ranked_cmp : Ranked → Ranked → Ordering
 ranked_cmp x y = ordering_then (int_cmp x.height y.height) (ordering_then (slice_cmp int_cmp y.root.0.coeffs x.root.0.coeffs) (slice_cmp int_cmp y.root.0.co_coeffs x.root.0.co_coeffs))
 
+-- it is the order of roots
 ranked_is : (x y : Ranked) → IsRanked x → IsRanked y → ranked_cmp x y ≡ root_cmp (ranked_root x) (ranked_root y)
 ranked_is x y p q =
     let rest = ordering_then (slice_cmp int_cmp y.root.0.coeffs x.root.0.coeffs) (slice_cmp int_cmp y.root.0.co_coeffs x.root.0.co_coeffs) in
     ap (λ t. ordering_then (int_cmp t y.height) rest) p ∙ ap (λ t. ordering_then (int_cmp (height x.root.0) t) rest) q
 
+-- the sorted list of what was picked is the list of positive roots
 pub positive_list : (b : Base) (rs : List Root) (xs ys zs : List Ranked) (ts : List Root) → ListsRoots b rs → IsPicked IsPositive rs (map ranked_root xs) → All IsRanked xs → IsPermutation xs ys → IsSorted ranked_cmp ys → zs ≡ ys → ts ≡ map ranked_root zs → IsPositiveList b ts
 positive_list b rs xs ys zs ts h pick ranks p s e f = subst (IsPositiveList b) (sym (f ∙ ap (map ranked_root) e)) (sorted_list ranked_cmp ranked_is b rs xs ys h pick ranks p s)
 
 -- ---- the greatest mixed vector
+-- at the start, a root that isn't mixed, the first that is, and one more
 pub no_mixed : IsGreatestMixedOf [] None
 no_mixed r c = absurd (let l = c.1 in omega (arith, l))
 
@@ -183,13 +188,16 @@ not_itself v e = let f = tied_itself slices_total v in cc
 pub finite_closure : (b : Base) (rs : List Root) → ListsRoots b rs → IsFinite b
 finite_closure b rs h = record { count = (rs, h.closing.short, λ r p. (h.roots r).1 p); small = λ r p. (h.closing.roots r ((h.roots r).1 p)).1 }
 
+-- its roots are small
 pub small_closure : (b : Base) (rs : List Root) → ListsRoots b rs → All IsSmall rs
 small_closure b rs h k d l = (h.closing.roots (get_or rs k d) (contains_from_in rs (get_or rs k d) (in_at rs k d l))).1
 
+-- a clause on `Ok` that follows from another
 pub ok_map : {A E : Type 0} (P Q : A → Type 0) → ((x : A) → P x → Q x) → (r : Result A E) → IfOk r P → IfOk r Q
 ok_map P Q f (Ok x) h = f x h
 ok_map P Q f (Err e) h = tt
 
+-- what holds of the list holds of the roots
 pub unmixed_closure : (b : Base) (rs : List Root) → ListsRoots b rs → ((r : Root) → Contains rs r → ¬ IsMixed r) → IsUnmixed b
 unmixed_closure b rs h n r p = n r ((h.roots r).1 p)
 

@@ -1,8 +1,8 @@
 -- The order of the roots, and of vectors.
-use Rattle.std.proofs.Common.{◌≡◌, ◌≢◌, ℤ, ◌<ℤ◌, List, [], ◌∷◌, refl, sym, ap, ◌∙◌}
+use Rattle.std.proofs.Common.{◌≡◌, ◌≢◌, ◌<ℤ◌, [], ◌∷◌, refl, ap}
 use Rattle.std.proofs.lemmas.Cmp.{int_cmp_total, int_ranked, on_total, then_total, back_total, lists_total, tied_itself}
 use Rattle.std.specs.Cmp.{IsTotalOrder}
-use Rattle.std.specs.Ordering.{int_cmp, ordering_then, ordering_reverse, MatchOrdering}
+use Rattle.std.specs.Ordering.{int_cmp, ordering_then, MatchOrdering}
 use Rattle.std.specs.Cmp.Lexicographic.{slice_cmp}
 use Rattle.std.specs.declared.cmp.Ordering.{Ordering}
 use Rattle.std.specs.declared.cmp.Ordering.TheVariants.{Less, Equal, Greater}
@@ -10,15 +10,18 @@ use Rattle.lie_datum.specs.Vectors.{Vector}
 use Rattle.lie_datum.specs.RootDatum.{Root}
 use Rattle.lie_datum.specs.RootList.{height, root_cmp}
 
+-- vectors and roots are in a total order
 pub slices_total : IsTotalOrder (slice_cmp int_cmp)
 slices_total = lists_total int_cmp_total
 
 pub root_total : IsTotalOrder root_cmp
 root_total = then_total (on_total height int_cmp_total) (then_total (on_total (λ r. r.coeffs) (back_total slices_total)) (on_total (λ r. r.co_coeffs) (back_total slices_total)))
 
+-- a root ties with itself
 pub same_order : (r : Root) → root_cmp r r ≡ Equal
 same_order r = tied_itself root_total r
 
+-- vectors that tie are equal
 pub equal_slices : (v w : Vector) → slice_cmp int_cmp v w ≡ Equal → v ≡ w
 equal_slices [] [] e = refl
 equal_slices [] (b ∷ w) e = cc
@@ -30,7 +33,7 @@ equal_slices (a ∷ v) (b ∷ w) e = by (int_cmp a b) e (int_ranked a b (int_cmp
     by Equal e m f = let g = f e in cc
     by Greater e m f = cc
 
--- neither v nor what is not above it is above w, if v isn't
+-- what is not above v is not above w, where v isn't
 pub not_above : (u v w : Vector) → slice_cmp int_cmp u v ≢ Greater → slice_cmp int_cmp v w ≢ Greater → slice_cmp int_cmp u w ≢ Greater
 not_above u v w p q e = by (slice_cmp int_cmp u v) refl (slice_cmp int_cmp v w) refl p q
   where

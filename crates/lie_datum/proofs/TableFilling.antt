@@ -1,23 +1,22 @@
 -- How the tables of a datum are filled.
-use Rattle.std.proofs.Common.{◌≡◌, ◌≢◌, ℕ, zero, suc, ◌+◌, ◌*◌, ◌<◌, ◌≤◌, ℤ, pos, ◌+ℤ◌, ◌*ℤ◌, Bool, true, false, cond, List, [], ◌∷◌, ◌++◌, length, get_or, take, map, refl, sym, ap, subst, ◌∙◌, arith, ◌⊎◌, inl, inr, ⊎_elim, length-append, append_assoc, Option, None, Some, unsigned_abs, lit<, ◌^◌, add-one}
+use Rattle.std.proofs.Common.{◌≡◌, ℕ, zero, suc, ◌+◌, ◌*◌, ◌<◌, ◌≤◌, ℤ, pos, ◌+ℤ◌, ◌*ℤ◌, Bool, true, false, cond, List, [], ◌∷◌, ◌++◌, length, get_or, take, map, refl, sym, ap, ◌∙◌, arith, inl, inr, ⊎_elim, length-append, append_assoc, Option, None, Some, unsigned_abs, lit<, add-one}
 use Rattle.std.specs.Option.{IsSome}
 use Rattle.std.proofs.lemmas.List.{get_or_append_left, get_or-append-add, get_or_default, take_more, take_all, map-append}
 use Rattle.std.proofs.Math.ListN.{length-map, get_or-map}
 use Rattle.std.proofs.Math.IntN.{+ℤ_comm, +ℤ_assoc}
-use Rattle.std.specs.List.{All, Contains, range_with_len}
+use Rattle.std.specs.List.{range_with_len}
 use Rattle.std.specs.Ordering.{int_eq}
 use Rattle.std.specs.Cmp.Rules.{signed_items}
 use lib.Pointwise.{pointwise}
 use mir.Val.{to_z, of_z}
 use mir.Syntax.{w128}
-use Rattle.std.specs.Int.RustNames.{FitsSigned}
 use Rattle.lie_datum.specs.Vectors.{Vector, total}
 use Rattle.lie_datum.specs.Numbers.{number_at}
-use Rattle.lie_datum.specs.RootDatum.{Base, Root, rank, IsRoot, is_simple, is_reflected, IsSimpleIndex}
-use Rattle.lie_datum.specs.Load.{NoneBefore, IsFirstPair}
+use Rattle.lie_datum.specs.RootDatum.{Base, Root, rank, IsRoot, is_simple, is_reflected}
+use Rattle.lie_datum.specs.Load.{NoneBefore}
 use Rattle.lie_datum.specs.Grids.{grid, IsSamePair, IsIndexed}
 use Rattle.lie_datum.proofs.Entries.{within_or_past}
-use Rattle.lie_datum.proofs.VectorLemmas.{plain, fits, abs_add, abs_mul, sum_is}
+use Rattle.lie_datum.proofs.VectorLemmas.{plain, abs_add, abs_mul, sum_is}
 
 -- where there is a root, there is a simple one
 pub root_rank : (b : Base) (r : Root) → IsRoot b r → 1 ≤ rank b
@@ -25,6 +24,7 @@ root_rank b _ (is_simple i s) = let p = s.0 in let q = s.1 in omega (arith, p, q
 root_rank b _ (is_reflected i r s p) = let q = s.0 in let h = s.1 in omega (arith, q, h)
 
 -- ---- sums
+-- the sum over one member more
 pub total_take_more : {A : Type 0} (f : A → ℤ) (xs : List A) (k : ℕ) (d : A) → k < length xs → total f (take (k + 1) xs) ≡ total f (take k xs) +ℤ f (get_or xs k d)
 total_take_more f xs k d l = ap (total f) (take_more xs k d l) ∙ last (take k xs) (get_or xs k d)
   where
@@ -34,6 +34,7 @@ total_take_more f xs k d l = ap (total f) (take_more xs k d l) ∙ last (take k 
 
 -- ---- grids
 module _ {A B C : Type 0} (f : A → B → C) where
+  -- rows after rows
   pub grid-append : (xs zs : List A) (ys : List B) → grid f (xs ++ zs) ys ≡ grid f xs ys ++ grid f zs ys
   grid-append [] zs ys = refl
   grid-append (x ∷ xs) zs ys = ap (λ t. map (f x) ys ++ t) (grid-append xs zs ys) ∙ sym (append_assoc (map (f x) ys) (grid f xs ys) (grid f zs ys))
@@ -46,6 +47,7 @@ module _ {A B C : Type 0} (f : A → B → C) where
   pub grid_more : (xs : List A) (x : A) (ys : List B) → grid f (xs ++ x ∷ []) ys ≡ grid f xs ys ++ map (f x) ys
   grid_more xs x ys = grid-append xs (x ∷ []) ys ∙ ap (λ t. grid f xs ys ++ t) (append-none (map (f x) ys))
 
+  -- as many values as pairs, and the value at a pair
   pub length-grid : (xs : List A) (ys : List B) → length (grid f xs ys) ≡ length xs * length ys
   length-grid [] ys = omega arith
   length-grid (x ∷ xs) ys = let h = length-grid xs ys in let e = length-map ys (f x) in omega (arith, h, e, length-append (map (f x) ys) (grid f xs ys))
@@ -61,6 +63,7 @@ module _ {A B C : Type 0} (f : A → B → C) where
       ap (λ t. get_or (map (f a) ys ++ grid f xs ys) t d) e ∙ get_or-append-add (map (f a) ys) (grid f xs ys) (i * length ys + j) d ∙ get_or-grid xs ys i j d x y (omega (arith, p)) q
 
 -- ---- names by a vector
+-- no vector has no name, and one vector more has the number of its place
 pub no_index : (m : ℕ) (v : Vector) → IsIndexed m [] v None
 no_index m v c = let l = c.1 in omega (arith, l)
 
@@ -83,6 +86,7 @@ more_index m vs w v o h = by (pointwise int_eq w v) refl
 
 -- ---- the first two places with one vector
 module _ (vs : List Vector) where
+  -- the search row by row: a row begins, goes on and ends, and all rows have ended
   pub row_begins : (x : ℕ) → NoneBefore (IsSamePair vs) x 0 → NoneBefore (IsSamePair vs) x (x + 1)
   row_begins x h k l p = ⊎_elim (λ m. h k l (inl m)) (λ m q. (let a = q.0 in let e = m.0 in let b = m.1 in absurd (omega (arith, a, e, b)))) p
 
@@ -109,6 +113,7 @@ row_more f g old new ys k d z l e p q =
 pub row_whole : {A B C : Type 0} (f : A → B → C) (xs : List A) (x : A) (ys : List B) (k : ℕ) (new : List C) → length ys ≤ k → new ≡ grid f xs ys ++ map (f x) (take k ys) → new ≡ grid f (xs ++ x ∷ []) ys
 row_whole f xs x ys k new l e = e ∙ ap (λ t. grid f xs ys ++ map (f x) t) (take_all k ys l) ∙ sym (grid_more f xs x ys)
 
+-- one number more
 pub range_next : (a n : ℕ) → range_with_len a (n + 1) ≡ range_with_len a n ++ (a + n) ∷ []
 range_next a n = ap (range_with_len a) (add-one n) ∙ next a n
   where
@@ -130,6 +135,7 @@ module _ (s k : ℤ) (p : unsigned_abs k ≤ 51200000000) (q : unsigned_abs s �
   pub square_more : (n : ℕ) → unsigned_abs s ≤ 2621440000000000000000 * n → unsigned_abs (s +ℤ k *ℤ k) ≤ 2621440000000000000000 * (n + 1)
   square_more n h = let a = abs_add s (k *ℤ k) in let b = square_bound k p in omega (arith, a, b, h)
 
+-- None is not some value
 pub not_none : {A : Type 0} (o : Option A) → o ≡ None → IsSome o → ⊥
 not_none None e s = cc
 not_none (Some x) e s = cc

@@ -1,11 +1,10 @@
 -- What the filled tables say of the roots of the datum, and what the search for repeated vectors says of the axioms.
-use Rattle.std.proofs.Common.{◌≡◌, ◌≢◌, ℕ, zero, suc, ◌+◌, ◌-◌, ◌*◌, ◌<◌, ◌≤◌, ℤ, pos, ◌*ℤ◌, List, [], ◌∷◌, ◌++◌, length, get_or, take, map, refl, sym, ap, subst, ◌∙◌, arith, ◌⊎◌, inl, inr, ⊎_elim, Option, None, Some}
+use Rattle.std.proofs.Common.{◌≡◌, ℕ, zero, suc, ◌+◌, ◌-◌, ◌*◌, ◌<◌, ◌≤◌, ℤ, ◌*ℤ◌, List, [], ◌++◌, length, get_or, take, map, refl, sym, ap, subst, ◌∙◌, arith, ⊎_elim, Option, None, Some}
 use Rattle.std.specs.Option.{IsSome}
 use Rattle.std.proofs.lemmas.List.{get_or_default}
 use Rattle.std.proofs.lemmas.List.FromFn.{get_or-range_with_len, length-range_with_len}
-use Rattle.std.proofs.lemmas.Nat.{mul-add-lt}
 use Rattle.std.proofs.Math.ListN.{length-map, get_or-map}
-use Rattle.std.specs.List.{All, Contains, range_with_len}
+use Rattle.std.specs.List.{All, range_with_len}
 use Rattle.lie_datum.specs.declared.faults.DatumFault.TheVariants.{Repeated}
 use Rattle.lie_datum.specs.declared.root_data.Entry.{Entry}
 use Rattle.lie_datum.specs.declared.root_data.Datum.TheInside.{Inside}
@@ -14,21 +13,21 @@ use Rattle.indexmap.specs.IndexMap.{get}
 use lib.Pointwise.{pointwise}
 use Rattle.std.proofs.lemmas.List.{take-map}
 use Rattle.std.proofs.Math.Seq.{take-append_seam}
-use Rattle.lie_datum.specs.Vectors.{Vector, pairing, plus, total}
+use Rattle.lie_datum.specs.Vectors.{Vector, pairing, plus}
 use Rattle.lie_datum.specs.Numbers.{place, number_at}
-use Rattle.lie_datum.specs.RootDatum.{Base, Root, rank, vector, covector, opposite, reflected, is_reflected, IsRoot, IsSimpleIndex, IsSmall, IsCartan, IsRootDatum, IsFinite, IsUnmixed, IsApart}
-use Rattle.lie_datum.specs.RootList.{Roots, IsLoaded, IsPositiveList, IsNumber, root_of, all_roots, length2, NamesRoot}
+use Rattle.lie_datum.specs.RootDatum.{Base, Root, rank, vector, covector, opposite, reflected, is_reflected, IsRoot, IsSmall, IsCartan, IsApart}
+use Rattle.lie_datum.specs.RootList.{Roots, IsLoaded, IsNumber, root_of, all_roots, NamesRoot}
 use Rattle.lie_datum.specs.Entries.{as_root, HasEntry, IsEntryOf, square_sum}
 use Rattle.lie_datum.specs.Grids.{grid, IsSamePair, IsIndexed}
 use Rattle.lie_datum.specs.Table.{AreSums, AreImages, loaded_roots, IsTableOf}
-use Rattle.lie_datum.specs.Load.{IsFault, IsFirstPair, NoneBefore, IsRepeated}
+use Rattle.lie_datum.specs.Load.{IsFault, IsFirstPair, IsRepeated}
 use Rattle.lie_datum.specs.Listing.{IsListed}
-use Rattle.lie_datum.proofs.Members.{In, total-map}
+use Rattle.lie_base.proofs.Members.{total-map}
 use Rattle.lie_datum.proofs.Entries.{within_or_past}
-use Rattle.lie_datum.proofs.ClosureLemmas.{in_from_contains, contains_from_in}
+use Rattle.lie_datum.proofs.ClosureLemmas.{contains_from_in}
 use Rattle.lie_datum.proofs.ListedLemmas.{order_in, order_only, listed_only}
 use Rattle.lie_datum.proofs.LoadedLaws.{all_in, all_only}
-use Rattle.lie_datum.proofs.NumberLemmas.{place_within, root_at, numbered_at, IsAtPlace}
+use Rattle.lie_datum.proofs.NumberLemmas.{place_within, root_at, numbered_at}
 use Rattle.lie_datum.proofs.SignedRoots.{in_at, length-all, root_is, same_coeffs}
 use Rattle.lie_datum.proofs.TableFilling.{get_or-grid, length-grid}
 
@@ -40,15 +39,20 @@ no_root = record { coeffs = []; co_coeffs = [] }
 pub names_root : (d : Roots) (loaded : IsLoaded d) (f : Root → Vector) (v : Vector) (o : Option ℤ) → IsIndexed (length d.positive) (map f (all_roots d)) v o → NamesRoot d (λ r. f r ≡ v) o
 names_root d loaded f v None h = λ r p e.
     let c = contains_from_in (all_roots d) r (all_in d loaded r p) in
-    h (c.0, (let l = c.1 in omega (arith, l, length-map (all_roots d) f)),
-    get_or_default (map f (all_roots d)) c.0 v (f r) (let l = c.1 in omega (arith, l, length-map (all_roots d) f)) ∙ get_or-map f (all_roots d) c.0 r ∙ ap f c.2 ∙ e)
+    h (
+      c.0,
+      (let l = c.1 in omega (arith, l, length-map (all_roots d) f)),
+      get_or_default (map f (all_roots d)) c.0 v (f r) (let l = c.1 in omega (arith, l, length-map (all_roots d) f)) ∙ get_or-map f (all_roots d) c.0 r ∙ ap f c.2 ∙ e,
+    )
 names_root d loaded f v (Some n) h =
     let k = h.0 in
     let low : k < length (all_roots d) = let l = h.1 in omega (arith, l, length-map (all_roots d) f) in
     let at = numbered_at d k (omega (arith, low, length-all d)) in
-    let named : IsNumber d (number_at (length d.positive) k) × (f (root_of d (number_at (length d.positive) k)) ≡ v) =
-    (at.number, ap f (sym (at.root no_root)) ∙ sym (get_or-map f (all_roots d) k no_root)
-    ∙ get_or_default (map f (all_roots d)) k (f no_root) v h.1 ∙ h.3) in
+    let named : IsNumber d (number_at (length d.positive) k) × (f (root_of d (number_at (length d.positive) k)) ≡ v) = (
+      at.number,
+      ap f (sym (at.root no_root)) ∙ sym (get_or-map f (all_roots d) k no_root)
+          ∙ get_or_default (map f (all_roots d)) k (f no_root) v h.1 ∙ h.3,
+    ) in
     subst (λ t. IsNumber d t × (f (root_of d t) ≡ v)) (sym h.2) named
 
 -- every root has a name
@@ -65,6 +69,7 @@ module _ (d : Roots) (loaded : IsLoaded d) where
       ap (λ k. get_or (grid f xs (all_roots d)) (i * k + place (length d.positive) s) z) (sym (length-all d))
       ∙ get_or-grid f xs (all_roots d) i (place (length d.positive) s) z x no_root l (omega (arith, w, length-all d)) ∙ ap (f (get_or xs i x)) (root_at d s no_root n)
 
+  -- the table of sums
   pub sums_hold : (names : Vector → Option ℤ) → ((v : Vector) → NamesRoot d (λ r. r.coeffs ≡ v) (names v)) → (sums : List (Option ℤ)) → sums ≡ grid (λ r s. names (plus r.coeffs s.coeffs)) (all_roots d) (all_roots d) → AreSums d sums
   sums_hold names named sums e r s m n =
       let P : Option ℤ → Type 0 = NamesRoot d (λ t. t.coeffs ≡ plus (root_of d r).coeffs (root_of d s).coeffs) in
@@ -74,6 +79,7 @@ module _ (d : Roots) (loaded : IsLoaded d) where
       ∙ at_pair f (all_roots d) (place (length d.positive) r) no_root s None (omega (arith, w, length-all d)) n ∙ ap (λ t. f t (root_of d s)) (root_at d r no_root m)))
       (named (plus (root_of d r).coeffs (root_of d s).coeffs))
 
+  -- the table of images
   pub images_hold : (names : Vector → Option ℤ) → ((v : Vector) → NamesRoot d (λ r. r.coeffs ≡ v) (names v)) → (images : List ℤ) → map Some images ≡ grid (λ i r. names (reflected d.base i r).coeffs) (range_with_len 1 (rank d.base)) (all_roots d) → AreImages d images
   images_hold names named images e zero r k i n h = absurd (let l = i.0 in omega (arith, l))
   images_hold names named images e (suc i) r k s n h =
@@ -89,6 +95,7 @@ module _ (d : Roots) (loaded : IsLoaded d) where
       let is = subst (NamesRoot d (λ t. t.coeffs ≡ (reflected d.base (suc i) (root_of d r)).coeffs)) at (named (reflected d.base (suc i) (root_of d r)).coeffs) in
       (is.0, same_coeffs d loaded (root_of d k) (reflected d.base (suc i) (root_of d r)) (root_is d loaded k is.0) (is_reflected (suc i) (root_of d r) s (root_is d loaded r n)) is.1)
 
+  -- an entry
   pub entry_holds : (e : Entry) → HasEntry d.base (map (covector d.base) (all_roots d)) e → IsEntryOf d e
   entry_holds e h = record {
     vector = h.vector;
@@ -106,6 +113,7 @@ module _ (b : Base) (c : IsCartan b) (rs : List Root) (listed : IsListed b rs) w
   d : Roots
   d = record { base = b; positive = rs }
 
+  -- the bounds of the roots
   pub listed_small : All IsSmall rs
   listed_small k z l = listed.finite.small (get_or rs k z) (listed_only b c listed.unmixed rs listed.list (get_or rs k z) (in_at rs k z l)).0
 
@@ -119,6 +127,7 @@ module _ (b : Base) (c : IsCartan b) (rs : List Root) (listed : IsListed b rs) w
   unfolding d
   same_at x z l = get_or_default (map (vector b) (all_roots d)) x [] (vector b z) (omega (arith, l, length-map (all_roots d) (vector b))) ∙ get_or-map (vector b) (all_roots d) x z
 
+  -- no two places with one vector: the sixth axiom
   pub apart_holds : ((x y : ℕ) → ¬ IsSamePair (map (vector b) (rs ++ map opposite rs)) x y) → IsApart b
   unfolding d
   apart_holds none r s p q e =
@@ -134,6 +143,7 @@ module _ (b : Base) (c : IsCartan b) (rs : List Root) (listed : IsListed b rs) w
       (λ l. ⊎_elim (λ m. absurd (none g.0 f.0 (record { 0 = m; 1 = omega (arith, fl, long); 2 = at_g ∙ sym e ∙ sym at_f })))
       (λ m. (let k : f.0 ≡ g.0 = omega (arith, l, m) in sym f.2 ∙ ap (λ t. get_or xs t r) k ∙ get_or_default xs g.0 r s g.1 ∙ g.2)) (within_or_past g.0 f.0)) (within_or_past f.0 g.0)
 
+  -- and so the base is a root datum
   pub loads : IsApart b → IsLoaded (record { base = b; positive = rs })
   loads apart = record {
     axioms = record { input = c.input; twos = c.twos; signs = c.signs; zeros = c.zeros; finite = listed.finite; unmixed = listed.unmixed; apart = apart };
@@ -147,6 +157,7 @@ module _ (b : Base) (c : IsCartan b) (rs : List Root) (listed : IsListed b rs) w
       let inside = q.1 in
       record { 0 = q.0; 1 = omega (arith, inside, length-map (all_roots d) (vector b)); 2 = same_at k no_root (omega (arith, lt, inside)) ∙ q.2 no_root ∙ sym (same_at l no_root q.1) }
 
+  -- the first two places with one vector: the fault
   pub repeats : (x y : ℕ) → IsFirstPair (IsSamePair (map (vector b) (rs ++ map opposite rs))) x y → IsFault b (Repeated (number_at (length rs) x) (number_at (length rs) y))
   unfolding d
   repeats x y h =
@@ -159,9 +170,18 @@ module _ (b : Base) (c : IsCartan b) (rs : List Root) (listed : IsListed b rs) w
         λ k l q r. h.1 k l q (same_pair k l r),
       ) in
       let j = numbered_at d x (omega (arith, lt, inside, long, twice)) in
-      let k = numbered_at d y (omega (arith, inside, long, twice)) in
-      (c, listed.finite, listed.unmixed, (rs, listed.list, j.number, k.number,
-      subst (λ t. IsFirstPair (IsRepeated d) t (place (length rs) (number_at (length rs) y))) (sym j.place) (subst (λ t. IsFirstPair (IsRepeated d) x t) (sym k.place) first)))
+      let k = numbered_at d y (omega (arith, inside, long, twice)) in (
+        c,
+        listed.finite,
+        listed.unmixed,
+        (
+          rs,
+          listed.list,
+          j.number,
+          k.number,
+          subst (λ t. IsFirstPair (IsRepeated d) t (place (length rs) (number_at (length rs) y))) (sym j.place) (subst (λ t. IsFirstPair (IsRepeated d) x t) (sym k.place) first),
+        ),
+      )
 
 -- ---- all tables of a datum
 abbrev with_entries : Base → ℕ → List Entry → Roots

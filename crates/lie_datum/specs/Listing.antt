@@ -1,6 +1,6 @@
 -- The list of the positive roots is picked from the closure and sorted.
-use Rattle.std.specs.Prelude.{◌≡◌, ◌≢◌, ℕ, ◌≤◌, ℤ, List, map, length, Option, MatchOption}
-use Rattle.std.specs.List.{All, Contains}
+use Rattle.std.specs.Prelude.{◌≡◌, ◌≢◌, ◌≤◌, List, length, Option, MatchOption}
+use Rattle.std.specs.List.{Contains}
 use Rattle.std.specs.Ordering.{int_cmp}
 use Rattle.std.specs.Cmp.Lexicographic.{slice_cmp}
 use Rattle.std.specs.declared.cmp.Ordering.TheVariants.{Greater}
@@ -25,9 +25,11 @@ pub record IsPicked (P : Root → Type 0) (xs ys : List Root) : Type 0 where
   pub every : (r : Root) → Contains xs r → P r → Contains ys r
   pub once : IsDistinctList xs → IsDistinctList ys
 
+-- the root without its height
 abbrev pub ranked_root : Ranked → Root
 ranked_root x = x.root.0
 
+-- the height that is kept is that of the root
 abbrev pub IsRanked : Ranked → Type 0
 IsRanked x = x.height ≡ height x.root.0
 

@@ -1,6 +1,6 @@
 //! From the closure to the list of the positive roots, and the roots in the full order.
 
-ghost use Rattle.std.specs.Prelude.{◌≡◌, ◌≢◌, ℤ, pos, ◌≤◌, ◌≤ℤ◌, ◌<ℤ◌, IsTrue, ◌↔◌, ⊤, IfOk, ◌++◌, map, length, MatchOption, MatchResult, ◌⊎◌};
+ghost use Rattle.std.specs.Prelude.{◌≡◌, ◌≢◌, ℤ, pos, ◌≤◌, ◌<ℤ◌, IsTrue, ◌↔◌, IfOk, ◌++◌, map, length, MatchResult, ◌⊎◌};
 ghost use Rattle.std.specs.List.{All, Any};
 ghost use Rattle.std.specs.Ordering.{int_cmp};
 ghost use Rattle.std.specs.Cmp.Lexicographic.{slice_cmp};
@@ -26,24 +26,28 @@ pub(crate) struct Ranked {
     pub(crate) root: Reverse<Root>,
 }
 
+/// Whether no coefficient is below 0.
 fn is_positive(r: &Root) -> bool
     ensures { IsTrue result ↔ IsPositive r.now }
 {
     r.coeffs.iter().all(|c| *c >= 0)
 }
 
+/// Whether some entry is above 0.
 fn rises(v: &Vector) -> bool
     ensures { IsTrue result ↔ Any (λ c. pos 0 <ℤ c) v.now }
 {
     v.iter().any(|c| *c > 0)
 }
 
+/// Whether some entry is below 0.
 fn falls(v: &Vector) -> bool
     ensures { IsTrue result ↔ Any (λ c. c <ℤ pos 0) v.now }
 {
     v.iter().any(|c| *c < 0)
 }
 
+/// Whether there are coefficients of both signs.
 fn is_mixed(r: &Root) -> bool
     ensures { IsTrue result ↔ IsMixed r.now }
 {
@@ -96,6 +100,7 @@ fn pick_positive(alloc: Global, roots: &[Root]) -> Result<Vec<Ranked>, AllocErro
     Ok(list)
 }
 
+/// The roots alone, in the same order.
 fn without_heights(alloc: Global, list: &[Ranked]) -> Result<Vec<Root>, AllocError>
     ensures { IfOk result (λ roots. roots.items ≡ map ranked_root list.now) }
 {
@@ -107,11 +112,7 @@ fn without_heights(alloc: Global, list: &[Ranked]) -> Result<Vec<Root>, AllocErr
 }
 
 /// The positive roots in order.
-fn positive_roots(
-    alloc: Global,
-    base: &Base,
-    roots: &[Root],
-) -> Result<Vec<Root>, AllocError>
+fn positive_roots(alloc: Global, base: &Base, roots: &[Root]) -> Result<Vec<Root>, AllocError>
     requires cartan { IsCartan base.now }
     requires roots { ListsRoots base.now roots.now }
     requires unmixed { IsUnmixed base.now }
@@ -135,6 +136,7 @@ pub(crate) fn listed(alloc: Global, base: &Base) -> Result<Vec<Root>, DatumFault
     Ok(positive_roots(alloc, base, roots.as_slice())?)
 }
 
+/// The opposite root.
 fn opposite(r: &Root) -> Root
     requires { IsSmall r.now }
     ensures { result ≡ opposite r.now }

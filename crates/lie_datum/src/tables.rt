@@ -1,11 +1,11 @@
 //! The tables of a datum, filled from its roots in the full order.
 
-ghost use Rattle.std.specs.Prelude.{◌≡◌, ◌≢◌, ℕ, ℤ, ◌≤◌, ◌<◌, ◌*◌, ◌*ℤ◌, IfOk, IsSome, List, map, length, MatchOption, unsigned_abs};
+ghost use Rattle.std.specs.Prelude.{◌≡◌, ℕ, ◌≤◌, ◌<◌, ◌*◌, IfOk, IsSome, map, length, MatchOption};
 ghost use Rattle.std.specs.List.{All, range_with_len};
 ghost use Rattle.std.specs.Ordering.{int_eq};
 ghost use Rattle.indexmap.specs.IndexMap.{get};
 ghost use lib.Pointwise.{pointwise};
-ghost use Rattle.lie_datum.specs.Vectors.{Vector, pairing, plus, total};
+ghost use Rattle.lie_datum.specs.Vectors.{Vector, pairing, plus};
 ghost use Rattle.lie_datum.specs.RootDatum.{Root, rank, vector, covector, reflected, IsRoot, IsSmall, IsWithin};
 ghost use Rattle.lie_datum.specs.RootList.{height};
 ghost use Rattle.lie_datum.specs.Load.{IsFirstPair};
@@ -32,11 +32,7 @@ pub(crate) fn coefficients(alloc: Global, roots: &[Root]) -> Result<Vec<Vector>,
 }
 
 /// The vectors of the roots in X.
-pub(crate) fn vectors(
-    alloc: Global,
-    base: &Base,
-    roots: &[Root],
-) -> Result<Vec<Vector>, AllocError>
+pub(crate) fn vectors(alloc: Global, base: &Base, roots: &[Root]) -> Result<Vec<Vector>, AllocError>
     requires { All (λ r. IsRoot base.now r × IsSmall r) roots.now }
     ensures { IfOk result (λ list. list.items ≡ map (vector base.now) roots.now) }
 {

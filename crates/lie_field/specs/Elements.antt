@@ -1,19 +1,20 @@
--- The elements of a field as a type, those that are not 0, and their powers by whole numbers.
-use Rattle.std.proofs.Common.{◌≡◌, ℕ, zero, suc, ◌<◌, ltb, eqb, Bool, true, false, not, T, refl, sym, ap, ap₂, ◌∙◌, subst, arith}
+-- The elements of a field as a type, those that are not 0 (units), and their powers by whole numbers.
+-- Own: the operations are total, and each law holds at every value, so no law has a premise `a < q`.
+use Rattle.std.proofs.Common.{◌≡◌, ℕ, zero, suc, ◌<◌, eqb, Bool, true, false, not, T, refl, sym, ap, ap₂, ◌∙◌, subst, arith}
 use Rattle.std.specs.Prelude.{ℤ, pos, negsuc, neg_ℤ, ◌≢◌, ◌⊎◌}
 use Rattle.std.proofs.Common.{inl, inr}
 use mathlib.Core.Logic.{⊎_elim}
 use Rattle.std.proofs.lemmas.Bool.{ltb-true, cases_eq}
-use Rattle.std.proofs.Math.Facts.{ltb_yes, yes_ltb, eqb_no, no_eqb}
+use Rattle.std.proofs.Math.Facts.{eqb_no, no_eqb}
 use lib.Dec.{T_prop}
 use mathlib.Core.HLevel.{Σ_prop_path}
 use Rattle.lie_base.specs.Below.{Below, same_below, at_number, is_below}
-use Rattle.lie_field.specs.Quotient.{FieldData, order, add, mul, neg, inv, power, power_int, of_int, IsRingData, IsFieldData}
+use Rattle.lie_field.specs.Quotient.{order, add, mul, neg, inv, power, power_int, of_int}
 use Rattle.lie_field.specs.FiniteField.{FiniteField}
-use Rattle.lie_field.specs.FieldTest.{is_lawful}
+use Rattle.lie_field.specs.Algebra.FieldTest.{is_lawful}
 use Rattle.lie_field.specs.FieldRing.{field_is_ring}
-use Rattle.lie_field.specs.Laws
-use Rattle.lie_field.specs.Powers
+use Rattle.lie_field.specs.Algebra.Laws
+use Rattle.lie_field.specs.Algebra.Powers
 
 -- an element
 abbrev pub Elem : FiniteField → Type 0
@@ -24,6 +25,7 @@ pub record NonZero (f : FiniteField) : Type 0 where
   pub element : Elem f
   pub nonzero : T (not (eqb element.number 0))
 
+-- values with equal numbers are equal
 pub same_nonzero : (f : FiniteField) (a b : NonZero f) → a.element.number ≡ b.element.number → a ≡ b
 same_nonzero f a b e =
     let elements : a.element ≡ b.element = same_below (order f.given) a.element b.element e in
@@ -31,27 +33,35 @@ same_nonzero f a b e =
     λ i. record { element = (pairs i).0; nonzero = (pairs i).1 }
 
 module _ (f : FiniteField) where
+  -- q is at least 2
   pub order_large : 1 < order f.given
   order_large = Powers.one_below f.given (is_lawful f).ring
 
+  -- q is positive
   pub order_positive : 0 < order f.given
   order_positive = let l = order_large in omega (arith, l)
 
+  -- 0
   unfoldable pub zero_elem : Elem f
   zero_elem = at_number (order f.given) 0 order_positive
 
+  -- 1
   unfoldable pub one_elem : Elem f
   one_elem = at_number (order f.given) 1 order_large
 
+  -- the sum
   unfoldable pub elem_add : Elem f → Elem f → Elem f
   elem_add a b = at_number (order f.given) (add f.given a.number b.number) (Laws.add_below f.given (is_lawful f).ring a.number b.number)
 
+  -- the negative
   unfoldable pub elem_neg : Elem f → Elem f
   elem_neg a = at_number (order f.given) (neg f.given a.number) (Laws.neg_below f.given (is_lawful f).ring a.number)
 
+  -- the product
   unfoldable pub elem_mul : Elem f → Elem f → Elem f
   elem_mul a b = at_number (order f.given) (mul f.given a.number b.number) (Laws.mul_below f.given (is_lawful f).ring a.number b.number)
 
+  -- the inverse, of an element that is not 0
   unfoldable pub elem_inv : Elem f → Elem f
   elem_inv a = at_number (order f.given) (inv f.given a.number) (Powers.inv-below f.given (is_lawful f) a.number)
 
@@ -89,6 +99,7 @@ module _ (f : FiniteField) where
   elem_int-number n = refl
 
   -- ---- the laws of a field, at every value
+  -- elements with equal numbers are equal
   same : {a b : Elem f} → a.number ≡ b.number → a ≡ b
   same {a} {b} e = same_below (order f.given) a b e
 
@@ -124,6 +135,7 @@ module _ (f : FiniteField) where
   unfolding elem_mul elem_add
   elem_mul_add a b c = same (Laws.mul-add f.given (is_lawful f).ring a.number b.number c.number)
 
+  -- the number of an element that is not 0 is positive
   pub number_positive : (a : Elem f) → ¬ (a ≡ zero_elem) → 0 < a.number
   unfolding zero_elem
   number_positive a h = let apart : a.number ≢ 0 = λ e. h (same e) in omega (arith, apart)
@@ -132,10 +144,12 @@ module _ (f : FiniteField) where
   unfolding elem_mul elem_inv one_elem
   elem_mul_inv a h = same (Powers.mul-inv f.given (is_lawful f) a.number (number_positive a h) (is_below (order f.given) a))
 
+  -- 1 is not 0
   pub one_not_zero : ¬ (one_elem ≡ zero_elem)
   unfolding one_elem zero_elem
   one_not_zero e = let n : ◌≡◌ {A = ℕ} 1 0 = ap (λ (x : Elem f). x.number) e in omega (arith, n)
 
+  -- an element is 0 or not
   pub zero_or_not : (a : Elem f) → (a ≡ zero_elem) ⊎ (¬ (a ≡ zero_elem))
   unfolding zero_elem
   zero_or_not a = ⊎_elim (λ (e : a.number ≡ 0). inl (same e)) (λ (h : ¬ (a.number ≡ 0)). inr (λ (e : a ≡ zero_elem). h (ap (λ (x : Elem f). x.number) e))) (cases_eq a.number 0)
@@ -144,9 +158,11 @@ module _ (f : FiniteField) where
   positive_number : (a : NonZero f) → 0 < a.element.number
   positive_number a = let h = eqb_no a.nonzero in omega (arith, h)
 
+  -- units with equal numbers are equal
   same_unit : {a b : NonZero f} → a.element.number ≡ b.element.number → a ≡ b
   same_unit {a} {b} e = same_nonzero f a b e
 
+  -- a product of elements that are not 0 is not 0
   pub mul_apart : (a b : NonZero f) → mul f.given a.element.number b.element.number ≢ 0
   mul_apart a b =
       let x = a.element.number in
@@ -155,30 +171,36 @@ module _ (f : FiniteField) where
       let q = positive_number b in
       λ e. (let z = Powers.no_zero_divisors f.given (is_lawful f) x y p (is_below (order f.given) a.element) (is_below (order f.given) b.element) e in omega (arith, z, q))
 
+  -- an inverse is not 0
   pub inv_apart : (a : NonZero f) → inv f.given a.element.number ≢ 0
   inv_apart a =
       let x = a.element.number in
       let d = is_lawful f in
       λ e. (let n : ◌≡◌ {A = ℕ} 1 0 = sym (Powers.mul-inv f.given d x (positive_number a) (is_below (order f.given) a.element)) ∙ ap (mul f.given x) e ∙ Laws.mul_zero f.given d.ring x in omega (arith, n))
 
+  -- the number 1 is not 0
   pub one_apart : ◌≢◌ {A = ℕ} 1 0
   one_apart = omega arith
 
+  -- 1, as a unit
   unfoldable pub unit_one : NonZero f
   unit_one = record { element = at_number (order f.given) 1 order_large; nonzero = no_eqb one_apart }
 
+  -- the product of units
   unfoldable pub unit_mul : NonZero f → NonZero f → NonZero f
   unit_mul a b = record {
     element = at_number (order f.given) (mul f.given a.element.number b.element.number) (Laws.mul_below f.given (is_lawful f).ring a.element.number b.element.number);
     nonzero = no_eqb (mul_apart a b);
   }
 
+  -- the inverse of a unit
   unfoldable pub unit_inv : NonZero f → NonZero f
   unit_inv a = record {
     element = at_number (order f.given) (inv f.given a.element.number) (Powers.inv-below f.given (is_lawful f) a.element.number);
     nonzero = no_eqb (inv_apart a);
   }
 
+  -- the units' operations are those of the elements
   pub unit_one-element : unit_one.element ≡ one_elem
   unfolding unit_one one_elem
   unit_one-element = refl
@@ -207,6 +229,7 @@ module _ (f : FiniteField) where
   unfolding unit_mul unit_inv unit_one
   unit_mul_inv a = same_unit (Powers.mul-inv f.given (is_lawful f) a.element.number (positive_number a) (is_below (order f.given) a.element))
 
+  -- a unit is not 0
   pub unit_not_zero : (a : NonZero f) → ¬ (a.element ≡ zero_elem)
   unfolding zero_elem
   unit_not_zero a e = eqb_no a.nonzero (ap (λ (x : Elem f). x.number) e)
@@ -227,14 +250,17 @@ module _ (f : FiniteField) where
       ∙ ap (unit_mul a) (sym (unit_assoc b c d) ∙ ap (λ x. unit_mul x d) (unit_comm b c) ∙ unit_assoc c b d)
       ∙ sym (unit_assoc a c (unit_mul b d))
 
+  -- the inverse of a product is the product of the inverses
   pub unit_inv_mul : (a b : NonZero f) → unit_inv (unit_mul a b) ≡ unit_mul (unit_inv a) (unit_inv b)
   unit_inv_mul a b =
       sym (unit_inv_only (unit_mul a b) (unit_mul (unit_inv a) (unit_inv b))
       (unit_middle a b (unit_inv a) (unit_inv b) ∙ ap₂ unit_mul (unit_mul_inv a) (unit_mul_inv b) ∙ unit_mul_one unit_one))
 
+  -- the inverse of the inverse is the unit itself
   pub unit_inv_inv : (a : NonZero f) → unit_inv (unit_inv a) ≡ a
   unit_inv_inv a = sym (unit_inv_only (unit_inv a) a (unit_comm (unit_inv a) a ∙ unit_mul_inv a))
 
+  -- the inverse of 1 is 1
   pub unit_inv_one : unit_inv unit_one ≡ unit_one
   unit_inv_one = sym (unit_inv_only unit_one unit_one (unit_mul_one unit_one))
 
@@ -248,37 +274,44 @@ module _ (f : FiniteField) where
   unit_power_int a (pos n) = unit_power a n
   unit_power_int a (negsuc n) = unit_power (unit_inv a) (suc n)
 
+  -- the powers of 1 are 1
   pub unit_power-one : (n : ℕ) → unit_power unit_one n ≡ unit_one
   unfolding unit_power
   unit_power-one zero = refl
   unit_power-one (suc n) = ap (λ x. unit_mul x unit_one) (unit_power-one n) ∙ unit_mul_one unit_one
 
+  -- a power of a product is the product of the powers
   pub unit_power-mul : (a b : NonZero f) (n : ℕ) → unit_power (unit_mul a b) n ≡ unit_mul (unit_power a n) (unit_power b n)
   unfolding unit_power
   unit_power-mul a b zero = sym (unit_mul_one unit_one)
   unit_power-mul a b (suc n) = ap (λ x. unit_mul x (unit_mul a b)) (unit_power-mul a b n) ∙ unit_middle (unit_power a n) (unit_power b n) a b
 
+  -- a power of the inverse is the inverse of the power
   pub unit_power-inv : (a : NonZero f) (n : ℕ) → unit_power (unit_inv a) n ≡ unit_inv (unit_power a n)
   unfolding unit_power
   unit_power-inv a zero = sym unit_inv_one
   unit_power-inv a (suc n) = ap (λ x. unit_mul x (unit_inv a)) (unit_power-inv a n) ∙ sym (unit_inv_mul (unit_power a n) a)
 
+  -- and so for whole exponents
   pub power_one : (n : ℤ) → unit_power_int unit_one n ≡ unit_one
   unfolding unit_power_int
   power_one (pos n) = unit_power-one n
   power_one (negsuc n) = ap (λ x. unit_power x (suc n)) unit_inv_one ∙ unit_power-one (suc n)
 
+  -- (a b)^n = a^n b^n
   pub power_mul : (a b : NonZero f) (n : ℤ) → unit_power_int (unit_mul a b) n ≡ unit_mul (unit_power_int a n) (unit_power_int b n)
   unfolding unit_power_int
   power_mul a b (pos n) = unit_power-mul a b n
   power_mul a b (negsuc n) = ap (λ x. unit_power x (suc n)) (unit_inv_mul a b) ∙ unit_power-mul (unit_inv a) (unit_inv b) (suc n)
 
+  -- a^(-n) is the inverse of a^n
   pub power_neg : (a : NonZero f) (n : ℤ) → unit_power_int a (neg_ℤ n) ≡ unit_inv (unit_power_int a n)
   unfolding unit_power_int unit_power
   power_neg a (pos zero) = sym unit_inv_one
   power_neg a (pos (suc n)) = unit_power-inv a (suc n)
   power_neg a (negsuc n) = sym (unit_inv_inv (unit_power a (suc n))) ∙ ap unit_inv (sym (unit_power-inv a (suc n)))
 
+  -- the numbers of powers
   pub unit_power-number : (a : NonZero f) (n : ℕ) → (unit_power a n).element.number ≡ power f.given a.element.number n
   unfolding unit_power unit_one unit_mul power
   unit_power-number a zero = refl
@@ -295,17 +328,21 @@ module _ (f : FiniteField) where
   nonzero_by a true e = record { element = a; nonzero = subst T (sym e) tt }
   nonzero_by a false e = unit_one
 
+  -- an element as a unit, where 0 is read as 1
   unfoldable pub as_nonzero : Elem f → NonZero f
   as_nonzero a = nonzero_by a (not (eqb a.number 0)) refl
 
+  -- where it is not 0, it is the element itself
   nonzero_by-element : (a : Elem f) (b : Bool) (e : not (eqb a.number 0) ≡ b) → T b → (nonzero_by a b e).element ≡ a
   unfolding nonzero_by
   nonzero_by-element a true e t = refl
   nonzero_by-element a false e t = absurd t
 
+  -- where it is not 0, it is the element itself
   pub as_nonzero-element : (a : Elem f) → ¬ (a ≡ zero_elem) → (as_nonzero a).element ≡ a
   unfolding as_nonzero zero_elem
   as_nonzero-element a h = nonzero_by-element a (not (eqb a.number 0)) refl (no_eqb (λ e. h (same e)))
 
+  -- units with equal elements are equal
   pub same_element : {a b : NonZero f} → a.element ≡ b.element → a ≡ b
   same_element {a} {b} e = same_unit (ap (λ (x : Elem f). x.number) e)

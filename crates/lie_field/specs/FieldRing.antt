@@ -1,15 +1,15 @@
--- A finite field as a ring on the numbers below its order.
-use Rattle.std.proofs.Common.{◌≡◌, ℕ, zero, suc, ◌+◌, ◌-◌, ◌*◌, ◌%◌, ◌<◌, ltb, true, List, [], ◌∷◌, map, replicate, length, refl, sym, ap, ap₂, ◌∙◌, arith}
-use Rattle.std.specs.Prelude.{ℤ, pos, negsuc, IsTrue}
+-- A finite field as a ring on the numbers below its order: a roomy one, in which sizes and degrees are 0.
+use Rattle.std.proofs.Common.{◌≡◌, ℕ, ltb, true, refl, arith}
+use Rattle.std.specs.Prelude.{ℤ, pos, negsuc}
 use Rattle.std.proofs.lemmas.Bool.{ltb-true, lt-ltb}
-use Rattle.lie_ring.specs.Rings.{RingOn, IsElem, IsCommutativeRing, IsFromIntegers, IsSized, IsRing}
+use Rattle.lie_ring.specs.Rings.{RingOn, IsCommutativeRing, IsFromIntegers, IsSized, IsRing}
 use Rattle.lie_ring.specs.FromNaturals.{from_naturals, integers_from_naturals}
-use Rattle.lie_field.specs.Quotient.{FieldData, degree, order, add, mul, neg, of_int, element, remainder, IsRingData, IsFieldData}
+use Rattle.lie_field.specs.Quotient.{order, add, mul, neg, of_int}
 use Rattle.lie_field.specs.FiniteField.{FiniteField}
-use Rattle.lie_field.specs.FieldTest.{is_lawful}
-use Rattle.lie_field.specs.Laws.{add_comm, add_assoc, add_zero, add_neg, mul_comm, mul_assoc, mul_one, mul-add, add_below, mul_below, neg_below}
-use Rattle.lie_field.specs.Powers.{one_below}
-use Rattle.lie_field.specs.Scalars.{of_nat, of_nat-below, of_nat-zero, of_nat-one, of_nat-plus, of_nat-times}
+use Rattle.lie_field.specs.Algebra.FieldTest.{is_lawful}
+use Rattle.lie_field.specs.Algebra.Laws.{add_comm, add_assoc, add_zero, add_neg, mul_comm, mul_assoc, mul_one, mul-add, add_below, mul_below, neg_below}
+use Rattle.lie_field.specs.Algebra.Powers.{one_below}
+use Rattle.lie_field.specs.Algebra.Scalars.{of_nat, of_nat-below, of_nat-zero, of_nat-one, of_nat-plus, of_nat-times}
 
 -- the elements are the numbers below q, and each has size and degree 0
 abbrev pub field_ring : FiniteField → RingOn ℕ
@@ -26,6 +26,7 @@ field_ring f = record {
   roomy = true;
 }
 
+-- the elements are a commutative ring with one
 field_commutative : (f : FiniteField) → IsCommutativeRing (field_ring f)
 field_commutative f =
     let d = is_lawful f in
@@ -47,11 +48,13 @@ field_commutative f =
       mul_add = λ a b c _ _ _. mul-add f.given r a b c;
     }
 
+-- a negative whole number is read as the negative of a natural number
 of_int-is : (f : FiniteField) (n : ℤ) → of_int f.given n ≡ from_naturals (field_ring f) (of_nat f.given) n
 unfolding of_int of_nat
 of_int-is f (pos n) = refl
 of_int-is f (negsuc n) = refl
 
+-- `of_int` is the homomorphism from the integers
 field_integers : (f : FiniteField) → IsFromIntegers (field_ring f)
 field_integers f =
     let r = (is_lawful f).ring in
@@ -59,6 +62,7 @@ field_integers f =
     (λ n. lt-ltb _ (order f.given) (of_nat-below f.given r n))
     (of_nat-zero f.given r) (of_nat-one f.given r) (of_nat-plus f.given r) (of_nat-times f.given r) (of_int-is f)
 
+-- sizes and degrees are 0
 field_sized : (f : FiniteField) → IsSized (field_ring f)
 field_sized f = record {
   size_zero = refl;
@@ -77,5 +81,6 @@ field_sized f = record {
   roomy_degree = λ _ _ _. refl;
 }
 
+-- a finite field is a roomy ring
 pub field_is_ring : (f : FiniteField) → IsRing (field_ring f)
 field_is_ring f = record { laws = field_commutative f; integers = field_integers f; sized = field_sized f }

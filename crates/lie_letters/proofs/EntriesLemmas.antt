@@ -1,9 +1,9 @@
 -- The product of torus vectors by the numbers of their entries is that of a commutative group.
 use Rattle.std.proofs.Common.{◌≡◌, ℕ, List, [], ◌∷◌, length, refl, ap₂}
 use Rattle.lie_field.specs.FiniteField.{FiniteField}
-use Rattle.lie_field.specs.FieldTest.{is_lawful}
-use Rattle.lie_field.specs.Laws
-use Rattle.lie_field.specs.Powers
+use Rattle.lie_field.specs.Algebra.FieldTest.{is_lawful}
+use Rattle.lie_field.specs.Algebra.Laws
+use Rattle.lie_field.specs.Algebra.Powers
 use Rattle.lie_letters.specs.Entries.{AreUnits, ones, times_each, inverses, IsTorusGroup}
 use Rattle.lie_letters.proofs.TorusLemmas.{AreUnits-times_each, AreUnits-inverses}
 

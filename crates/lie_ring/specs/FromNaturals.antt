@@ -14,9 +14,11 @@ from_naturals R h (negsuc n) = R.neg (h (suc n))
 module _ {A : Type 0} (R : RingOn A) (laws : IsCommutativeRing R) where
   module _ (h : ℕ → A) (elem : (n : ℕ) → IsElem R (h n)) (none : h 0 ≡ R.zero) (one : h 1 ≡ R.one)
       (sum : (m n : ℕ) → h (m + n) ≡ R.add (h m) (h n)) (product : (m n : ℕ) → h (m * n) ≡ R.mul (h m) (h n)) where
+    -- the map from the integers
     abbrev int : ℤ → A
     int = from_naturals R h
 
+    -- it gives elements
     int_elem : (n : ℤ) → IsElem R (int n)
     int_elem (pos n) = elem n
     int_elem (negsuc n) = laws.neg_elem (h (suc n)) (elem (suc n))
@@ -40,14 +42,17 @@ module _ {A : Type 0} (R : RingOn A) (laws : IsCommutativeRing R) where
     low (pos n) = 0
     low (negsuc n) = suc n
 
+    -- and 0 where it is negative, else z
     abbrev high : ℤ → ℕ
     high (pos n) = n
     high (negsuc n) = 0
 
+    -- z is the difference of the two
     parts : (z : ℤ) → z +ℤ pos (low z) ≡ pos (high z)
     parts (pos n) = let e : pos n +ℤ pos 0 ≡ pos n = omega (arith, ints) in e
     parts (negsuc n) = let e : negsuc n +ℤ pos (suc n) ≡ pos 0 = omega (arith, ints) in e
 
+    -- it carries sums to sums
     int_add : (m n : ℤ) → int (m +ℤ n) ≡ R.add (int m) (int n)
     int_add m n =
         let a = high m in
@@ -64,11 +69,13 @@ module _ {A : Type 0} (R : RingOn A) (laws : IsCommutativeRing R) where
         ∙ add_middle R laws (int m) (h b) (int n) (h d) p (elem b) q (elem d)
         ∙ ap (R.add (R.add (int m) (int n))) (sym (sum b d)))
 
+    -- it carries negatives to negatives
     int_neg : (z : ℤ) → int (neg_ℤ z) ≡ R.neg (int z)
     int_neg z =
         let cancels : z +ℤ neg_ℤ z ≡ pos 0 = omega (arith, ints) in
         neg_only R laws (int z) (int (neg_ℤ z)) (int_elem z) (int_elem (neg_ℤ z)) (sym (int_add z (neg_ℤ z)) ∙ ap int cancels ∙ none)
 
+    -- it carries products to products
     int_mul : (m n : ℤ) → int (m *ℤ n) ≡ R.mul (int m) (int n)
     int_mul (pos m) (pos n) = ap int (pos-*ℤ-pos m n) ∙ product m n
     int_mul (pos m) (negsuc n) =
@@ -86,6 +93,7 @@ module _ {A : Type 0} (R : RingOn A) (laws : IsCommutativeRing R) where
         ∙ sym (neg_neg R laws (R.mul x y) (laws.mul_elem x y p q))
         ∙ ap R.neg (sym (mul_neg R laws x y p q)) ∙ sym (neg_mul R laws x (R.neg y) p (laws.neg_elem y q))
 
+    -- where `of_int` is this map, it is the homomorphism from the integers
     pub integers_from_naturals : ((n : ℤ) → R.of_int n ≡ int n) → IsFromIntegers R
     integers_from_naturals is = record {
       int_elem = λ n. subst (IsElem R) (sym (is n)) (int_elem n);

@@ -31,6 +31,7 @@ module _ {A B : Type 0} (R : RingOn A) (S : RingOn B) (h : A → B) (ring : IsRi
       let right : S.add (S.neg (h a)) (h a) ≡ S.zero = target.laws.add_comm (S.neg (h a)) (h a) m (hom.elem a p) ∙ target.laws.add_neg (h a) (hom.elem a p) in
       add_cancel S target.laws (h (R.neg a)) (S.neg (h a)) (h a) (hom.elem (R.neg a) n) m (hom.elem a p) (left ∙ sym right)
 
+  -- the image of a natural number is that number
   hom_pos : (n : ℕ) → h (R.of_int (pos n)) ≡ S.of_int (pos n)
   hom_pos zero = ap h (int_zero R ring) ∙ hom.zero ∙ sym (int_zero S target)
   hom_pos (suc n) =

@@ -1,6 +1,6 @@
 //! The homomorphism from the integers to a roomy ring.
 
-ghost use Rattle.std.specs.Prelude.{IsTrue};
+ghost use Rattle.std.specs.Prelude.{◌≡◌, IsTrue};
 
 use crate::homs::Hom;
 use crate::integers::Ints;
@@ -9,15 +9,18 @@ use crate::roomy::roomy_of_int;
 use std::alloc::{AllocError, Global};
 
 /// The homomorphism from the integers to a roomy ring, which carries n to `of_int` of n.
+#[derive(Drop)]
 pub struct FromIntegers<'a, R: Ring> {
-    ints: &'a Ints,
-    ring: &'a R,
+    pub ints: &'a Ints,
+    pub ring: &'a R,
     ghost roomy: { IsTrue (R.ring ring.now).roomy },
 }
 
 impl<'a, R: Ring> FromIntegers<'a, R> {
     pub fn new(ints: &'a Ints, ring: &'a R) -> FromIntegers<'a, R>
         requires { IsTrue (R.ring ring.now).roomy }
+        ensures ints { result.ints.now ≡ ints.now }
+        ensures ring { result.ring.now ≡ ring.now }
     {
         FromIntegers { ints, ring }
     }

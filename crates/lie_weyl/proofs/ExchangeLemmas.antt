@@ -3,7 +3,8 @@ use Rattle.std.proofs.Common.{◌≡◌, ℕ, zero, suc, ◌+◌, ◌<◌, ◌�
 use Rattle.lie_datum.specs.declared.root_pair.Root.{Root}
 use Rattle.lie_datum.specs.RootDatum.{Base, simple, reflected, IsSimpleIndex, IsRoot, is_simple, is_reflected, IsPositive}
 use Rattle.lie_datum.specs.RootList.{Roots, IsLoaded}
-use Rattle.lie_datum.proofs.Turns.{turned_by, turn_moves, turned_by_simple}
+use Rattle.lie_datum.specs.Laws.{reflected_in}
+use Rattle.lie_datum.proofs.Turns.{turn_moves, reflected_in_simple}
 use Rattle.lie_datum.proofs.LoadedLaws.{short, simple_or, positive_dec}
 use Rattle.lie_weyl.specs.WeylElement.{moved, SameProduct}
 use Rattle.lie_weyl.proofs.Words.{IsWord, empty, letter, IsWord-append, IsRoot-moved, lengths, moved-append, twice}
@@ -11,7 +12,7 @@ use Rattle.lie_weyl.proofs.Signs.{simple_up}
 
 module _ (d : Roots) (loaded : IsLoaded d) where
   -- a word carries the reflection in r to the reflection in its image
-  moved-turned : (w : List ℕ) (r t : Root) → IsWord d.base w → IsRoot d.base r → IsRoot d.base t → moved d.base w (turned_by d.base r t) ≡ turned_by d.base (moved d.base w r) (moved d.base w t)
+  moved-turned : (w : List ℕ) (r t : Root) → IsWord d.base w → IsRoot d.base r → IsRoot d.base t → moved d.base w (reflected_in d.base r t) ≡ reflected_in d.base (moved d.base w r) (moved d.base w t)
   moved-turned [] r t h p q = refl
   moved-turned (i ∷ w) r t (letter s h) p q =
       ap (reflected d.base i) (moved-turned w r t h p q)
@@ -55,9 +56,9 @@ module _ (d : Roots) (loaded : IsLoaded d) where
             after = w;
             split = refl;
             word = h;
-            same = λ t p. turned_by_simple d.base (short d loaded) loaded.axioms.input.corank loaded.axioms.twos (suc j) (moved d.base w t) l
-                ∙ ap (λ r. turned_by d.base r (moved d.base w t)) (sym e) ∙ sym (moved-turned w (simple (suc i)) t h (is_simple (suc i) s) p)
-                ∙ ap (moved d.base w) (sym (turned_by_simple d.base (short d loaded) loaded.axioms.input.corank loaded.axioms.twos (suc i) t s));
+            same = λ t p. reflected_in_simple d.base (short d loaded) loaded.axioms.input.corank loaded.axioms.twos (suc j) (moved d.base w t) l
+                ∙ ap (λ r. reflected_in d.base r (moved d.base w t)) (sym e) ∙ sym (moved-turned w (simple (suc i)) t h (is_simple (suc i) s) p)
+                ∙ ap (moved d.base w) (sym (reflected_in_simple d.base (short d loaded) loaded.axioms.input.corank loaded.axioms.twos (suc i) t s));
           })
           (λ g. absurd (n g)) (simple_or d loaded j (moved d.base w (simple (suc i))) l root m)
 

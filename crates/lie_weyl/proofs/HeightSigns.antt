@@ -7,8 +7,8 @@ use Rattle.lie_datum.specs.declared.root_pair.Root.{Root}
 use Rattle.lie_datum.specs.Vectors.{Vector, plus, times, minus, unit, entry, total}
 use Rattle.lie_datum.specs.RootDatum.{rank, simple, reflected, opposite, IsSimpleIndex, IsRoot, is_simple, is_reflected, IsPositive, IsWithin}
 use Rattle.lie_datum.specs.RootList.{Roots, IsLoaded, height}
-use Rattle.lie_datum.proofs.Whole.{mul-add, mul-one}
-use Rattle.lie_datum.proofs.RingSolver.{ring, var, num, neg, ◌⊕◌, ◌⊗◌}
+use Rattle.lie_base.proofs.Whole.{mul-add, mul-one}
+use Rattle.lie_base.proofs.RingSolver.{ring, var, num, neg, ◌⊕◌, ◌⊗◌}
 use Rattle.lie_datum.proofs.Entries.{within_or_past}
 use Rattle.lie_datum.proofs.LoadedLaws.{short, opposite_root, opposite_positive, positive_dec}
 use Rattle.lie_datum.proofs.HeightLemmas.{height_positive, total-plus}

@@ -8,7 +8,7 @@ use Rattle.lie_datum.specs.declared.root_pair.Root.{Root}
 use Rattle.lie_datum.specs.Vectors.{total}
 use Rattle.lie_datum.specs.RootDatum.{rank, simple, reflected, IsSimpleIndex, IsRoot, is_simple, is_reflected, IsPositive}
 use Rattle.lie_datum.specs.RootList.{Roots, IsLoaded}
-use Rattle.lie_datum.proofs.Members.{In, here, there, IsSimpleList, without, total-without, in_without, from_without, IsSimpleList-without, total_permuted}
+use Rattle.lie_base.proofs.Members.{In, here, there, IsSimpleList, without, total-without, in_without, from_without, IsSimpleList-without, total_permuted}
 use Rattle.lie_datum.proofs.LoadedLaws.{positive_in, positive_only, stays, sorted_simple, positive_dec}
 use Rattle.lie_weyl.specs.WeylElement.{moved, SameProduct, is_negative, word_length}
 use Rattle.lie_weyl.proofs.Words.{IsWord, empty, letter, IsWord-append, one_letter, IsWord-reverse, reverse-cons, IsRoot-moved, moved-append, reverse_moved, moved_reverse, reverse_same, twice}

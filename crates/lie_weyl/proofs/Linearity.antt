@@ -5,7 +5,7 @@ use Rattle.lie_datum.specs.declared.root_pair.Root.{Root}
 use Rattle.lie_datum.specs.Vectors.{Vector, pairing, plus, times, unit, entry}
 use Rattle.lie_datum.specs.RootDatum.{Base, rank, vector, simple_coroot, simple, reflected, IsSimpleIndex, IsRoot, is_simple, is_reflected}
 use Rattle.lie_datum.specs.RootList.{Roots, IsLoaded, root_of}
-use Rattle.lie_datum.proofs.RingSolver.{ring, var, num, neg, ◌⊕◌, ◌⊗◌}
+use Rattle.lie_base.proofs.RingSolver.{ring, var, num, neg, ◌⊕◌, ◌⊗◌}
 use Rattle.lie_datum.proofs.Entries.{entry-plus, entry-times, length-plus, length-times, length-unit, same_entries}
 use Rattle.lie_datum.proofs.Roots.{HasLengths, HasLengths-reflected, entry-moved, length-moved, simple_vector}
 use Rattle.lie_datum.proofs.Reflections.{pairing-unit}

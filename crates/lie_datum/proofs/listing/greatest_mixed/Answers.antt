@@ -1,7 +1,6 @@
-use Rattle.std.proofs.Common.{◌≡◌, ◌+◌, ◌<◌, length, get_or, take, arith, [], ◌∷◌, ◌++◌, subst, sym, ap, ◌∙◌, Option, Some, None, List, false, true}
+use Rattle.std.proofs.Common.{get_or, take, arith, [], ◌∷◌, ◌++◌, subst, sym, List}
 use Rattle.std.proofs.lemmas.List.{take_more, take_all}
-use Rattle.lie_datum.specs.Vectors.{Vector}
-use Rattle.lie_datum.specs.RootDatum.{Root, IsMixed}
+use Rattle.lie_datum.specs.RootDatum.{Root}
 use Rattle.lie_datum.specs.Listing.{IsGreatestMixedOf}
 use Rattle.lie_datum.proofs.ListingLemmas.{no_mixed, mixed_same, mixed_first, mixed_more}
 use Rattle.lie_datum.proofs.listing.greatest_mixed.Goals as goal
@@ -22,7 +21,7 @@ loop-r-preserved c =
     (elim c.if-is_mixed.branch [
       | then-is_mixed+in-None w ↦ subst (IsGreatestMixedOf ts) (sym w.greatest-is) (mixed_first rs x (subst (IsGreatestMixedOf rs) w.in-None.is c.loop-r.invariant) (c.is_mixed.ensures.0 w.if-is_mixed.true))
       | then-is_mixed+in-Some w ↦ subst (IsGreatestMixedOf ts) (sym w.greatest-is)
-        (mixed_more rs w.in-Some.v w.greater.result x (subst (IsGreatestMixedOf rs) w.in-Some.is c.loop-r.invariant) (c.is_mixed.ensures.0 w.if-is_mixed.true) w.greater.ensures.one w.greater.ensures.first w.greater.ensures.second)
+          (mixed_more rs w.in-Some.v w.greater.result x (subst (IsGreatestMixedOf rs) w.in-Some.is c.loop-r.invariant) (c.is_mixed.ensures.0 w.if-is_mixed.true) w.greater.ensures.one w.greater.ensures.first w.greater.ensures.second)
       | else-is_mixed w ↦ subst (IsGreatestMixedOf ts) (sym w.greatest-is) (mixed_same rs c.loop-r.greatest x c.loop-r.invariant (λ m. (let t = c.is_mixed.ensures.1 m in let f = w.if-is_mixed.false in cc)))
     ])
 

@@ -1,5 +1,4 @@
-use Rattle.std.proofs.Common.{◌≡◌, ◌≤◌, length, map, arith, subst, sym, ap, ◌∙◌, List}
-use Rattle.lie_datum.specs.RootDatum.{Root}
+use Rattle.std.proofs.Common.{◌≡◌, ◌≤◌, length, map}
 use Rattle.lie_datum.specs.RootList.{IsPositiveList}
 use Rattle.lie_datum.specs.Listing.{ranked_root}
 use Rattle.lie_datum.proofs.ListingLemmas.{positive_list, finite_closure, small_closure, ok_map}

@@ -1,5 +1,5 @@
-use Rattle.std.proofs.Common.{◌≡◌, ◌+◌, get_or, take, map, length, [], ◌∷◌, ◌++◌, sym, ap, subst, ◌∙◌, arith, List, ℕ, Some, None}
-use Rattle.std.proofs.lemmas.List.{take_more, map-append}
+use Rattle.std.proofs.Common.{◌≡◌, ◌+◌, get_or, map, [], ◌∷◌, ◌++◌, sym, ap, ◌∙◌, arith, List, ℕ, Some}
+use Rattle.std.proofs.lemmas.List.{map-append}
 use Rattle.std.specs.Ordering.{int_eq}
 use Rattle.std.specs.List.{range_with_len}
 use Rattle.indexmap.specs.IndexMap.{get}

@@ -1,4 +1,4 @@
-use Rattle.std.proofs.Common.{◌≡◌, take, map, get_or, ◌++◌, ◌+◌, [], Some}
+use Rattle.std.proofs.Common.{◌≡◌, take, map, ◌++◌, ◌+◌, Some}
 use Rattle.std.specs.Ordering.{int_eq}
 use Rattle.std.specs.List.{range_with_len}
 use Rattle.indexmap.specs.IndexMap.{get}

@@ -1,4 +1,4 @@
-use Rattle.std.proofs.Common.{◌≡◌, ◌+◌, get_or, take, length, [], ◌∷◌, ◌++◌, sym, ap, subst, ◌∙◌, arith, List, Some, cond, length-take}
+use Rattle.std.proofs.Common.{◌≡◌, get_or, take, length, [], ◌∷◌, ◌++◌, sym, ap, subst, ◌∙◌, arith, List, Some, cond, length-take}
 use Rattle.std.proofs.lemmas.List.{take_more}
 use Rattle.std.specs.Ordering.{int_eq}
 use Rattle.indexmap.specs.IndexMap.{get}

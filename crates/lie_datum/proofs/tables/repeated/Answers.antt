@@ -1,6 +1,6 @@
-use Rattle.std.proofs.Common.{◌≡◌, get_or, [], true, false, sym, ◌∙◌, arith}
+use Rattle.std.proofs.Common.{get_or, [], sym, ◌∙◌, arith}
 use Rattle.std.specs.Cmp.Rules.{signed_items}
-use Rattle.lie_datum.proofs.TableFilling.{row_begins, row_goes, row_ends, no_pair}
+use Rattle.lie_datum.proofs.TableFilling.{row_goes}
 use Rattle.lie_datum.proofs.tables.repeated.Goals as goal
 
 pub returns-then-eq : goal.returns-then-eq

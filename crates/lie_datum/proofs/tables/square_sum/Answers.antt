@@ -1,8 +1,7 @@
-use Rattle.std.proofs.Common.{◌≡◌, ◌≤◌, ◌*◌, ◌+◌, ◌+ℤ◌, ◌*ℤ◌, get_or, take, [], sym, ap, subst, ◌∙◌, arith, unsigned_abs}
+use Rattle.std.proofs.Common.{◌≤◌, ◌+ℤ◌, ◌*ℤ◌, get_or, [], sym, ap, ◌∙◌, arith, unsigned_abs}
 use mir.Val.{to_z}
 use mir.Syntax.{w128}
 use Rattle.lie_datum.specs.Vectors.{pairing}
-use Rattle.lie_datum.specs.Entries.{square_sum}
 use Rattle.lie_datum.proofs.TableFilling.{total_take_more, square_is, square_more}
 use Rattle.lie_datum.proofs.tables.square_sum.Goals as goal
 
@@ -18,5 +17,7 @@ loop-y-preserved c =
     let low : unsigned_abs s ≤ 629145600000000000000000 = omega (arith, b, few) in
     let is = square_is s k c.pairing-k.ensures.bound low in
     let next = total_take_more (λ y. pairing x y *ℤ pairing x y) ys n [] (omega arith) in
-    rw is (ap (λ t. s +ℤ t *ℤ t) c.pairing-k.ensures.value ∙ ap (λ t. t +ℤ pairing x (get_or ys n []) *ℤ pairing x (get_or ys n [])) c.loop-y.invariant.0 ∙ sym next,
-    square_more s k c.pairing-k.ensures.bound low n b)
+    rw is (
+      ap (λ t. s +ℤ t *ℤ t) c.pairing-k.ensures.value ∙ ap (λ t. t +ℤ pairing x (get_or ys n []) *ℤ pairing x (get_or ys n [])) c.loop-y.invariant.0 ∙ sym next,
+      square_more s k c.pairing-k.ensures.bound low n b,
+    )

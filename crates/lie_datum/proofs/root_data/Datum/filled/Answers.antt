@@ -1,4 +1,4 @@
-use Rattle.std.proofs.Common.{◌≡◌, ◌*◌, ℕ, subst, sym, ap, ◌∙◌, List, take, length, arith, refl, map, length-take}
+use Rattle.std.proofs.Common.{◌≡◌, ℕ, subst, sym, ap, ◌∙◌, List, take, length, arith, refl, map, length-take}
 use Rattle.std.specs.List.{All, range_with_len}
 use Rattle.lie_datum.specs.RootDatum.{Root, IsRoot, IsSmall, covector, vector, reflected, rank}
 use Rattle.lie_datum.specs.RootList.{Roots, all_roots}

@@ -1,4 +1,4 @@
-use Rattle.std.proofs.Common.{◌≡◌, subst, sym, ap, ◌∙◌}
+use Rattle.std.proofs.Common.{◌≡◌, subst, sym, ◌∙◌}
 use Rattle.lie_datum.specs.RootDatum.{vector}
 use Rattle.lie_datum.specs.RootList.{NamesRoot}
 use Rattle.lie_datum.specs.Table.{loaded_roots}

@@ -1,6 +1,6 @@
-use Rattle.std.proofs.Common.{◌≡◌, ◌*◌, ◌++◌, ℕ, subst, sym, ap, ◌∙◌, List, take, length, arith, map}
+use Rattle.std.proofs.Common.{◌≡◌, ℕ, subst, sym, ap, ◌∙◌, List, take, length, map}
 use Rattle.std.specs.List.{All}
-use Rattle.lie_datum.specs.RootDatum.{Base, Root, IsRoot, IsSmall, opposite, vector}
+use Rattle.lie_datum.specs.RootDatum.{Root, IsRoot, IsSmall, opposite, vector}
 use Rattle.std.proofs.Math.Seq.{take-append_seam}
 use Rattle.lie_datum.specs.Vectors.{Vector}
 use Rattle.lie_datum.specs.RootList.{IsLoaded}

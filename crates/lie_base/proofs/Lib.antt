@@ -1,0 +1,3 @@
+pub mod Whole
+pub mod RingSolver
+pub mod Members

@@ -1,0 +1,64 @@
+use Rattle.std.proofs.Common.{rules, arith, ◌≡◌, false, true, sym, ◌∙◌, refl, []}
+use Rattle.std.proofs.lemmas.Bool.{false≢true}
+use Rattle.lie_session.proofs.ToldLemmas.{empty_from}
+use Rattle.lie_session.proofs.ProgressLemmas.{progress_none, progress_more, stop_more, stop_end, output_ended, output_end, replied_status}
+use Rattle.lie_session.proofs.program.reply_all.Goals as goal
+use Rattle.lie_session.proofs.program.reply_all.Goals.{then-lines-test+else-not-ended, else-lines-test}
+
+pub lines-init : goal.lines-init
+lines-init g c = (rw c.new-session.ensures (progress_none c.args.input.now (g.K.Sink.written c.args.sink.now)), refl, omega arith)
+
+pub lines-preserved : goal.lines-preserved
+lines-preserved g c =
+    let live : c.lines.session.ended ≡ false = search rules in
+    let a = c.in_default.ensures in (
+      progress_more _ _ _ _ _ _ _ _ a.0 _ _ c.lines.invariant.0 live c.first_line.ensures.cut a.1 a.2,
+      a.3 ∙ c.lines.invariant.1,
+      omega (arith, c.lines.invariant.2, c.first_line.ensures.shorter),
+    )
+
+pub returns-in-Err-clause-replied : goal.returns-in-Err-clause-replied
+returns-in-Err-clause-replied g c =
+    let live : c.lines.session.ended ≡ false = search rules in
+    rw c.stopped.ensures
+    (stop_more c.args.input.now c.lines.rest.now c.lines.number c.lines.session (g.K.Sink.written c.args.sink.now) (g.K.Sink.written c.lines.sink)
+    c.first_line.result.0.now c.first_line.result.1.now c.reply_to.new.session (g.K.Sink.written c.reply_to.new.sink) _ _ c.in-Err.stop
+    c.lines.invariant.0 live c.first_line.ensures.cut c.in-Err.ensures)
+
+pub returns-then-ended-clause-replied : goal.returns-then-ended-clause-replied
+returns-then-ended-clause-replied g c =
+    let over : c.lines.session.ended ≡ true = search rules in
+    let old = g.K.Sink.written c.args.sink.now in
+    let now = g.K.Sink.written c.lines.sink in
+    rw c.status.ensures
+    (replied_status c.args.input.now old now c.lines.session
+    (output_ended c.args.input.now c.lines.rest.now c.lines.number c.lines.session old now c.lines.invariant.0 over))
+
+pub returns-in-Err-reply_to_end-clause-replied : goal.returns-in-Err-reply_to_end-clause-replied
+returns-in-Err-reply_to_end-clause-replied g c =
+    let live : c.lines.session.ended ≡ false = search rules in
+    let empty : c.lines.rest.now ≡ [] =
+    elim c.lines-test.branch [
+      | then-lines-test+else-not-ended w ↦ absurd (false≢true (sym live ∙ sym w.ended.ensures ∙ w.if-not-ended.false))
+      | else-lines-test w ↦ empty_from _ _ c.is_empty.ensures w.lines-test.false
+    ] in
+    rw c.stopped-in-Err-reply_to_end.ensures
+    (stop_end c.args.input.now c.lines.rest.now c.lines.number c.lines.session (g.K.Sink.written c.args.sink.now) (g.K.Sink.written c.lines.sink)
+    c.reply_to_end.new.session (g.K.Sink.written c.reply_to_end.new.sink) _ _ c.in-Err-reply_to_end.stop
+    c.lines.invariant.0 empty live c.in-Err-reply_to_end.ensures)
+
+pub returns-clause-replied : goal.returns-clause-replied
+returns-clause-replied g c =
+    let live : c.lines.session.ended ≡ false = search rules in
+    let empty : c.lines.rest.now ≡ [] =
+    elim c.lines-test.branch [
+      | then-lines-test+else-not-ended w ↦ absurd (false≢true (sym live ∙ sym w.ended.ensures ∙ w.if-not-ended.false))
+      | else-lines-test w ↦ empty_from _ _ c.is_empty.ensures w.lines-test.false
+    ] in
+    let a = c.in_default-reply_to_end.ensures in
+    let old = g.K.Sink.written c.args.sink.now in
+    let now = g.K.Sink.written c.reply_to_end.new.sink in
+    rw c.status-2.ensures
+    (replied_status c.args.input.now old now c.reply_to_end.new.session
+    (output_end c.args.input.now c.lines.rest.now c.lines.number c.lines.session old (g.K.Sink.written c.lines.sink) a.0 c.reply_to_end.new.session now
+    c.lines.invariant.0 empty live a.1 a.2))

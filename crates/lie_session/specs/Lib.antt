@@ -1,0 +1,13 @@
+pub mod Lines
+pub mod Fields
+pub mod Numbers
+pub mod Checks
+pub mod LineFields
+pub mod Reading
+pub mod State
+pub mod FieldLines
+pub mod Replies
+pub mod Changes
+pub mod Output
+pub mod Runs
+pub mod Steps

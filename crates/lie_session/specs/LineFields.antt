@@ -1,0 +1,26 @@
+-- What a field says, apart from where it lies in memory.
+-- Own.
+use Rattle.std.specs.Prelude.{ℕ, List, [], map, Option, Some, None}
+use Rattle.std.specs.Borrow.{Bor}
+use Rattle.std.specs.List.{slice_split}
+use Rattle.lie_session.specs.Fields.{Span}
+use Rattle.lie_session.specs.Reading.{is_comma}
+use Rattle.lie_session.specs.declared.reading.fields.LineField.{LineField}
+
+-- a field as its column and bytes
+abbrev pub span : LineField → Span
+span field = record { column = field.column; bytes = field.bytes.now }
+
+-- fields as their columns and bytes
+abbrev pub spans : List LineField → List Span
+spans fields = map span fields
+
+-- the bytes that are found
+abbrev pub bytes_of : Option (Bor (List ℕ)) → Option (List ℕ)
+bytes_of None = None
+bytes_of (Some bytes) = Some bytes.now
+
+-- the pieces between commas of what is left, if anything is
+abbrev pub pieces_of : Option (List ℕ) → List (List ℕ)
+pieces_of None = []
+pieces_of (Some bytes) = slice_split is_comma bytes

@@ -1,0 +1,85 @@
+-- The replies to a script, what they write, and the status.
+-- Own.
+use Rattle.std.specs.Prelude.{◌≡◌, ◌⊎◌, ℕ, ◌+◌, if◌then◌else◌, Bool, true, false, List, [], ◌∷◌, ◌++◌, length}
+use Rattle.std.specs.Bool.{MatchBool}
+use Rattle.std.specs.List.{list_any}
+use Rattle.lie_field.specs.FiniteField.{FiniteField}
+use Rattle.lie_field.specs.Faults.{IsSized}
+use Rattle.std.specs.Prelude.{Some}
+use Rattle.lie_session.specs.Lines.{lines_of}
+use Rattle.lie_session.specs.State.{State, fresh}
+use Rattle.lie_session.specs.Replies.{Replies, RepliesAtEnd}
+use Rattle.lie_session.specs.declared.reply.Kind.{Kind}
+use Rattle.lie_session.specs.declared.reply.Kind.TheVariants as kind
+use Rattle.lie_session.specs.declared.reply.Reply.{Reply}
+use Rattle.lie_session.specs.declared.status.Status.{Status}
+use Rattle.lie_session.specs.declared.status.Status.TheVariants.{Done, Refused, LoadRefused}
+
+-- From a state in which n lines were read, these are replies to the lines, in order, and last is the state after them.
+-- An ended session replies to no more.
+abbrev pub RepliesTo : State → ℕ → List (List ℕ) → List Reply → State → Type 0
+RepliesTo s n [] replies last = (replies ≡ []) × (last ≡ s)
+RepliesTo s n (line ∷ lines) replies last =
+    MatchBool s.ended ((replies ≡ []) × (last ≡ s))
+    ((reply : Reply) × (next : State) × (others : List Reply)
+    × Replies s (n + 1) line reply next × (replies ≡ reply ∷ others) × RepliesTo next (n + 1) lines others last)
+
+-- the replies of a script: up to and with the first fatal one, or else with the reply of the end
+abbrev pub AreReplies : List ℕ → List Reply → Type 0
+AreReplies input replies =
+    (front : List Reply) × (last : State) × RepliesTo fresh 0 (lines_of input) front last
+    × MatchBool last.ended (replies ≡ front)
+    ((reply : Reply) × (over : State) × RepliesAtEnd last (length (lines_of input)) reply over × (replies ≡ front ++ reply ∷ []))
+
+-- the bytes of replies, in order
+abbrev pub bytes_of : List Reply → List ℕ
+bytes_of [] = []
+bytes_of (reply ∷ replies) = reply.bytes ++ bytes_of replies
+
+abbrev pub is_fatal : Kind → Bool
+is_fatal kind.Silent = false
+is_fatal kind.Answer = false
+is_fatal kind.Refused = false
+is_fatal kind.Fatal = true
+
+abbrev pub is_refused : Kind → Bool
+is_refused kind.Silent = false
+is_refused kind.Answer = false
+is_refused kind.Refused = true
+is_refused kind.Fatal = false
+
+-- whether some reply is of a kind
+abbrev pub has : (Kind → Bool) → List Reply → Bool
+has test replies = list_any (λ (reply : Reply). test reply.kind) replies
+
+-- the status of an input that was read to its end and replied to
+abbrev pub status_of : List Reply → Status
+status_of replies = if has is_fatal replies then LoadRefused else if has is_refused replies then Refused else Done
+
+-- an output of the input, with its status
+abbrev pub IsOutput : List ℕ → List ℕ → Status → Type 0
+IsOutput input out status =
+    (replies : List Reply) × AreReplies input replies × (out ≡ bytes_of replies) × (status ≡ status_of replies)
+
+-- replies to the first lines of the input
+abbrev pub AreFirstReplies : List ℕ → List Reply → Type 0
+AreFirstReplies input replies =
+    (front : List (List ℕ)) × (back : List (List ℕ)) × (last : State)
+    × (lines_of input ≡ front ++ back) × RepliesTo fresh 0 front replies last
+
+-- a prefix of the replies to the first lines, or of the whole output
+abbrev pub BeginsOutput : List ℕ → List ℕ → Type 0
+BeginsOutput input out =
+    (replies : List Reply) × (rest : List ℕ) × (AreFirstReplies input replies ⊎ AreReplies input replies) × (bytes_of replies ≡ out ++ rest)
+
+-- a script has one output alone, with one status
+abbrev pub OneOutput : Type 0
+OneOutput =
+    (input out other : List ℕ) (status status' : Status) → IsOutput input out status → IsOutput input other status'
+    → (out ≡ other) × (status ≡ status')
+
+-- each field that a script brings is within the limits
+abbrev pub FieldsAreSized : Type 0
+FieldsAreSized =
+    (lines : List (List ℕ)) (replies : List Reply) (s : State) (F : FiniteField) → RepliesTo fresh 0 lines replies s → s.field ≡ Some F
+    → IsSized F.given

@@ -1,0 +1,153 @@
+//! The run of the program.
+ghost use Rattle.std.specs.Prelude.{◌≡◌, ◌≤◌, ◌↔◌, false, length, map};
+ghost use Rattle.std.specs.String.{string_bytes};
+ghost use Rattle.lie_session.specs.Output.{OneOutput, FieldsAreSized};
+ghost use Rattle.lie_session.specs.Replies.{RepliesTellWords};
+ghost use Rattle.lie_session.specs.Runs.{is_run, input_limit, Cause, ReadCounts, WriteCounts, Complete, Exceeds};
+ghost use Rattle.lie_session.specs.Steps.{stop_status, Answered, AnsweredAtEnd, Replied};
+ghost use Rattle.lie_session.specs.State.{ended_status};
+
+use crate::cutting::first_line;
+use crate::input::{ReadStop, read_all};
+use crate::output::{WriteStop, write_all};
+use crate::session::Session;
+use crate::status::Status;
+use lie_kit::{Sink, Source};
+use std::alloc::Global;
+
+/// Replies to one line.
+fn reply_to<K: Sink>(
+    alloc: Global,
+    session: &mut Session,
+    number: u64,
+    line: &[u8],
+    sink: &mut K,
+) -> Result<(), WriteStop>
+    requires { session.old.ended ≡ false }
+    ensures { Answered session.old number line.now session.new (K.written sink.old) (K.faults sink.old) result (K.written sink.new) (K.faults sink.new) }
+{
+    match session.line(alloc, number, line) {
+        Ok(reply) => write_all(sink, reply.bytes.bytes()),
+        Err(_) => Err(WriteStop::NoMemory),
+    }
+}
+
+/// Replies to the end of the input.
+fn reply_to_end<K: Sink>(
+    alloc: Global,
+    session: &mut Session,
+    lines: u64,
+    sink: &mut K,
+) -> Result<(), WriteStop>
+    requires { session.old.ended ≡ false }
+    ensures { AnsweredAtEnd session.old lines session.new (K.written sink.old) (K.faults sink.old) result (K.written sink.new) (K.faults sink.new) }
+{
+    match session.end(alloc, lines) {
+        Ok(reply) => write_all(sink, reply.bytes.bytes()),
+        Err(_) => Err(WriteStop::NoMemory),
+    }
+}
+
+/// The status after writing stopped.
+fn stopped(stop: WriteStop) -> Status
+    ensures { result ≡ stop_status stop }
+{
+    match stop {
+        WriteStop::Fault => Status::WriteFault,
+        WriteStop::NoMemory => Status::NoMemory,
+    }
+}
+
+/// The status after the last reply.
+fn status(session: &Session) -> Status
+    ensures { result ≡ ended_status session.now }
+{
+    if !session.loaded() {
+        return Status::LoadRefused;
+    }
+    if session.refusals() == 0 {
+        Status::Done
+    } else {
+        Status::Refused
+    }
+}
+
+/// Replies to an input that was read to its end.
+fn reply_all<K: Sink>(alloc: Global, input: &[u8], sink: &mut K) -> Status
+    requires { length input.now ≤ input_limit }
+    ensures replied { Replied (K.written sink.old) input.now (K.written sink.new) result }
+    ensures counted { WriteCounts (K.faults sink.old) (K.faults sink.new) result }
+{
+    let mut session = Session::new(alloc);
+    let mut rest = input;
+    let mut number: u64 = 0;
+    'lines: while !rest.is_empty() && !session.ended() {
+        let (line, after) = first_line(rest);
+        number += 1;
+        if let Err(stop) = reply_to(alloc, &mut session, number, line, sink) {
+            return stopped(stop);
+        }
+        rest = after;
+    }
+    if session.ended() {
+        return status(&session);
+    }
+    if let Err(stop) = reply_to_end(alloc, &mut session, number, sink) {
+        return stopped(stop);
+    }
+    status(&session)
+}
+
+/// Whether the words are `run`.
+fn is_run_word(words: &[String]) -> bool
+    ensures { result ≡ is_run (map string_bytes words.now) }
+{
+    match words {
+        [word] => word.as_bytes() == b"run".as_slice(),
+        _ => false,
+    }
+}
+
+/// Replies to the lines of the source, where the words are `run`.
+fn run<S: Source, K: Sink>(alloc: Global, words: &[String], source: &mut S, sink: &mut K) -> Status
+    ensures usage { (result ≡ Status.Usage) ↔ (is_run (map string_bytes words.now) ≡ false) }
+    ensures cause { Cause (S.left source.old) (S.left source.new) (K.written sink.old) (K.written sink.new) result }
+    ensures read { ReadCounts (S.faults source.old) (S.faults source.new) result }
+    ensures written { WriteCounts (K.faults sink.old) (K.faults sink.new) result }
+{
+    if !is_run_word(words) {
+        return Status::Usage;
+    }
+    match read_all(alloc, source) {
+        Ok(input) => reply_all(alloc, input.as_slice(), sink),
+        Err(ReadStop::Fault) => Status::ReadFault,
+        Err(ReadStop::NoMemory) => Status::NoMemory,
+        Err(ReadStop::TooLong) => Status::TooLong,
+    }
+}
+
+/// Runs the program: with the word `run`, the lines of the source are replied to in order, up to and
+/// with the first fatal reply. The words are those of the command line without the program's name.
+/// Want of memory comes whenever the allocator or the sink says so; no clause says when.
+pub fn lie<S: Source, K: Sink>(
+    alloc: Global,
+    words: &[String],
+    source: &mut S,
+    sink: &mut K,
+) -> Status
+    ensures usage { (result ≡ Status.Usage) ↔ (is_run (map string_bytes words.now) ≡ false) }
+    ensures cause { Cause (S.left source.old) (S.left source.new) (K.written sink.old) (K.written sink.new) result }
+    ensures read { ReadCounts (S.faults source.old) (S.faults source.new) result }
+    ensures written { WriteCounts (K.faults sink.old) (K.faults sink.new) result }
+
+    // Where nothing fails, the output is written whole, unless the input is too long.
+    ensures complete { Complete (S.left source.old) (K.written sink.old) (K.written sink.new) (S.faults source.old) (S.faults source.new) (K.faults sink.old) (K.faults sink.new) result }
+    ensures exceeds { Exceeds (S.left source.old) (S.faults source.old) (S.faults source.new) result }
+
+    // What the replies are worth: there is one output, and equal replies mean joined words.
+    ensures one { OneOutput }
+    ensures words { RepliesTellWords }
+    ensures sized { FieldsAreSized }
+{
+    run(alloc, words, source, sink)
+}

@@ -1,0 +1,89 @@
+//! Fields of a line, with their columns.
+ghost use Rattle.std.specs.Prelude.{◌≡◌, ◌<◌, ◌≤◌, ◌+◌, true, false, length, ℕ, slice_index, IfOk, drop};
+ghost use Rattle.lie_session.specs.Fields.{is_blank as blank, is_silent as silent, fields_of, before_last as bytes_before_last, behind_first as bytes_behind_first};
+ghost use Rattle.lie_session.specs.LineFields.{spans, bytes_of};
+
+use std::alloc::{AllocError, Global};
+
+/// A field, where it lies in its line.
+#[derive(Clone, Copy, Drop)]
+pub(crate) struct LineField<'a> {
+    /// The place of its first byte, counted from 1.
+    pub column: usize,
+    pub bytes: &'a [u8],
+}
+
+fn is_blank(b: u8) -> bool
+    ensures { result ≡ blank b }
+{
+    b == b' ' || b == b'\t'
+}
+
+/// Whether a line has only blanks, or `#` as its first byte that is none.
+pub(crate) fn is_silent(line: &[u8]) -> bool
+    ensures { result ≡ silent line.now }
+{
+    for b in line {
+        if !is_blank(*b) {
+            return *b == b'#';
+        }
+    }
+    true
+}
+
+/// Where the field that begins at `start` ends.
+fn field_end(line: &[u8], start: usize) -> usize
+    requires { start < length line.now }
+    ensures bound { (start < result) × (result ≤ length line.now) }
+    ensures full { (k : ℕ) → start < k → k < result → blank (slice_index line.now k) ≡ false }
+    ensures ends { result < length line.now → blank (slice_index line.now result) ≡ true }
+{
+    let mut end = start + 1;
+    'end: while end < line.len() && !is_blank(line[end]) {
+        end += 1;
+    }
+    end
+}
+
+/// The fields of a line, from left to right.
+pub(crate) fn fields(alloc: Global, line: &[u8]) -> Result<Vec<LineField<'_>>, AllocError>
+    ensures { IfOk result (λ v. spans v.items ≡ fields_of line.now) }
+{
+    let mut fields = Vec::new(alloc);
+    let mut at = 0;
+    'fields: while at < line.len() {
+        if is_blank(line[at]) {
+            at += 1;
+        } else {
+            let end = field_end(line, at);
+            fields.push(LineField {
+                column: at + 1,
+                bytes: &line[at..end],
+            })?;
+            at = end;
+        }
+    }
+    Ok(fields)
+}
+
+/// The bytes behind c, where c is the first.
+pub(crate) fn behind_first(c: u8, bytes: &[u8]) -> Option<&[u8]>
+    ensures { bytes_of result ≡ bytes_behind_first c bytes.now }
+{
+    match bytes {
+        [b, rest @ ..] if *b == c => Some(rest),
+        _ => None,
+    }
+}
+
+/// The bytes before c, where c is the last.
+pub(crate) fn before_last(c: u8, bytes: &[u8]) -> Option<&[u8]>
+    ensures { bytes_of result ≡ bytes_before_last c bytes.now }
+{
+    let count = bytes.len();
+    if count > 0 && bytes[count - 1] == c {
+        Some(&bytes[..count - 1])
+    } else {
+        None
+    }
+}
