@@ -129,8 +129,8 @@ impl Weyl {
         vectors
     }
 
-    /// The images of the simple roots.
-    fn images(&self) -> &[RootId]
+    /// The images of the simple roots, that of a_i at place i - 1.
+    pub fn images(&self) -> &[RootId]
         ensures { result.now ≡ self.now }
     {
         &self.images[..self.l]
