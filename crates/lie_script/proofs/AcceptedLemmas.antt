@@ -1,7 +1,7 @@
 -- What holds of the lines that pass their checks.
 use Rattle.std.proofs.Common.{◌≡◌, ℕ, ◌+◌, true, List, [], ◌∷◌, length, ℤ, pos, nat_abs, ◌∙◌, arith, Ok, refl, sym, subst, ◌≤◌}
 use Rattle.std.specs.Prelude.{◌&&◌, ◌||◌, not, nat_eq, nat_le, IfOk}
-use Rattle.std.specs.List.{AllByRecursion}
+use Rattle.std.specs.List.{All, AllByRecursion}
 use Rattle.std.proofs.lemmas.List.{length-take}
 use Rattle.std.proofs.lemmas.List.Elements.{All-take, All-from_recursion}
 use Rattle.std.proofs.lemmas.Bool.{eqb-true}
@@ -10,7 +10,7 @@ use Rattle.lie_letters.specs.Spelled.{IsWordOver}
 use Rattle.lie_script.specs.Accepted.{Fits, AcceptedLinesFit}
 use Rattle.lie_script.specs.Checks.{found, none_at}
 use Rattle.lie_script.specs.Fields.{Span, fields_of, foreign_from, begins_with}
-use Rattle.lie_script.specs.Kinds.{field_of, field_line, datum_line, vector, root_line, coroot_line, bare_line, word_line}
+use Rattle.lie_script.specs.Kinds.{field_of, field_line, datum_line, vector, root_line, coroot_line, bare_line, word_line, is_dash, weyl_of, weyl_line}
 use Rattle.lie_script.specs.Names.{Listed}
 use Rattle.lie_script.specs.Letters.{word}
 use Rattle.lie_script.specs.Numbers.{is_within, allows, integer, number, numbers, natural}
@@ -49,6 +49,7 @@ awaited_by keyword.Coroot = wants.Coroot
 awaited_by keyword.Load = wants.Load
 awaited_by keyword.Form = wants.Command
 awaited_by keyword.Roots = wants.Command
+awaited_by keyword.Weyl = wants.Command
 
 -- a word that begins a line was awaited
 begun : (word : Keyword) (awaited : Wants) → begins word awaited ≡ true → awaited ≡ awaited_by word
@@ -94,6 +95,12 @@ begun keyword.Roots wants.Root due = absurd cc
 begun keyword.Roots wants.Coroot due = absurd cc
 begun keyword.Roots wants.Load due = absurd cc
 begun keyword.Roots wants.Command due = refl
+begun keyword.Weyl wants.Field due = absurd cc
+begun keyword.Weyl wants.Datum due = absurd cc
+begun keyword.Weyl wants.Root due = absurd cc
+begun keyword.Weyl wants.Coroot due = absurd cc
+begun keyword.Weyl wants.Load due = absurd cc
+begun keyword.Weyl wants.Command due = refl
 
 field_of-fits : (sizes : Sizes) (fields : List Span) (all : List ℤ) → AllByRecursion (λ n. is_within (pos 0) (pos 1000000) n ≡ true) all → IfOk (field_of fields all) (Fits wants.Field sizes)
 unfolding field_of
@@ -112,8 +119,12 @@ datum_line-fits sizes (d ∷ l ∷ []) =
     bind-all (Fits wants.Datum sizes) (natural 0 1000000 d) _ (λ d is. bind-all (Fits wants.Datum sizes) (natural 0 1000000 l) _ (λ l is. unless-all (Fits wants.Datum sizes) (nat_le 1 d && nat_le d 8 && nat_le l d) _ _ (λ sized. let parts = sized-is d l sized in (refl, parts.0, parts.1, parts.2))))
 datum_line-fits sizes (d ∷ l ∷ more ∷ fields) = tt
 
+-- no index is out of its range where there is none
+none-indices : (l : ℕ) → All (λ i. is_within (pos 1) (pos l) i ≡ true) []
+none-indices l = All-from_recursion (λ i. is_within (pos 1) (pos l) i ≡ true) [] tt
+
 own_line-fits : (sizes : Sizes) (listed : Listed) (word : Keyword) (fields : List Span) → IfOk (own_line sizes listed word fields) (Fits (awaited_by word) sizes)
-unfolding own_line field_line root_line coroot_line bare_line word_line
+unfolding own_line field_line root_line coroot_line bare_line word_line weyl_line
 own_line-fits sizes listed keyword.Field fields =
     bind-all (Fits wants.Field sizes) (numbers _ fields) _ (λ all is. field_of-fits sizes fields all (numbers-ok _ fields all is).1)
 own_line-fits sizes listed keyword.Datum fields = datum_line-fits sizes fields
@@ -123,6 +134,9 @@ own_line-fits sizes listed keyword.Load fields = unless-all (Fits wants.Load siz
 own_line-fits sizes listed keyword.Form fields =
     bind-all (Fits wants.Command sizes) (word_line sizes fields) _ (λ w is. (refl, λ f q_is d_is. IfOk-at_ok (IsWordOver f) is (unless-all (IsWordOver f) (nat_le 1 (length fields)) _ (word sizes fields) (λ some. word-over f sizes fields q_is d_is))))
 own_line-fits sizes listed keyword.Roots fields = unless-all (Fits wants.Command sizes) (nat_eq (length fields) 0) _ _ (λ counted. refl)
+own_line-fits sizes listed keyword.Weyl fields =
+    let P = Fits wants.Command sizes in
+    unless-all P (nat_le 1 (length fields)) _ _ (λ some. unless-all P (nat_le (length fields) 4096) _ _ (λ few. if-all P (is_dash fields) _ (weyl_of sizes fields) (refl, none-indices sizes.l) (bind-all P (numbers _ fields) _ (λ indices are. (refl, All-from_recursion (λ i. is_within (pos 1) (pos sizes.l) i ≡ true) indices (numbers-ok _ fields indices are).1)))))
 
 said-fits : (awaited : Wants) (sizes : Sizes) (listed : Listed) (bytes : List ℕ) (fields : List Span) → IfOk (said awaited sizes listed bytes fields) (Fits awaited sizes)
 unfolding spoken

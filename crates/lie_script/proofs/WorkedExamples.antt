@@ -4,7 +4,7 @@ use Rattle.lie_letters.specs.declared.letter.Letter.TheVariants.{H}
 use Rattle.lie_script.specs.Fields.{fields_of}
 use Rattle.lie_script.specs.Numbers.{number_of, integer, number, numbers, natural}
 use Rattle.lie_script.specs.Letters.{spelled, unit, spelled_list, units, torus_letter, letter, few_letters, letters, word}
-use Rattle.lie_script.specs.Kinds.{field_of, field_line, vector, root_line, coroot_line, bare_line, word_line}
+use Rattle.lie_script.specs.Kinds.{field_of, field_line, vector, root_line, coroot_line, bare_line, word_line, weyl_line}
 use Rattle.lie_script.specs.Reading.{keyword_of, own_line, spoken, reads}
 use Rattle.lie_script.specs.declared.faults.FaultName.TheVariants as fault
 use Rattle.lie_script.specs.declared.faults.Fault.{Fault}
@@ -44,7 +44,7 @@ first_lines =
     []
 
 first_lines_read : IsRead wants.Field no_sizes first_lines
-unfolding reads fields_of spoken keyword_of own_line field_of field_line vector root_line coroot_line bare_line word_line word letters few_letters letter torus_letter spelled unit spelled_list units number_of integer number numbers natural
+unfolding reads fields_of spoken keyword_of own_line field_of field_line vector root_line coroot_line bare_line word_line weyl_line word letters few_letters letter torus_letter spelled unit spelled_list units number_of integer number numbers natural
 first_lines_read = refl
 
 -- where a root of rank 1 is awaited
@@ -59,7 +59,7 @@ root_lines =
     []
 
 root_lines_read : IsRead wants.Root (record no_sizes { d = 1; l = 1; q = 5 }) root_lines
-unfolding reads fields_of spoken keyword_of own_line field_of field_line vector root_line coroot_line bare_line word_line word letters few_letters letter torus_letter spelled unit spelled_list units number_of integer number numbers natural
+unfolding reads fields_of spoken keyword_of own_line field_of field_line vector root_line coroot_line bare_line word_line weyl_line word letters few_letters letter torus_letter spelled unit spelled_list units number_of integer number numbers natural
 root_lines_read = refl
 
 -- commands over the field of five, with two coordinates
@@ -82,9 +82,17 @@ commands =
     (codes "form " ++ 128 ∷ [], Err (At fault.Byte 6)) ∷
     (codes "roots", Ok line.Roots) ∷
     (codes "roots 1", Err (At fault.Fields 1)) ∷
+    (codes "weyl 1 01 1", Ok (line.Weyl (pos 1 ∷ pos 1 ∷ pos 1 ∷ []))) ∷
+    (codes "weyl -", Ok (line.Weyl [])) ∷
+    (codes "weyl", Err (At fault.Fields 0)) ∷
+    (codes "weyl - -", Err (At fault.Number 6)) ∷
+    (codes "weyl 1 -", Err (At fault.Number 8)) ∷
+    (codes "weyl 1 2", Err (At fault.Simple 8)) ∷
+    (codes "weyl -0", Err (At fault.Simple 6)) ∷
+    (codes "weyl 1000000000000000001", Err (At fault.Range 6)) ∷
     (codes "load", Err (Bare fault.Order)) ∷
     []
 
 commands_read : IsRead wants.Command (record { d = 2; l = 1; m = 1; q = 5; dim = 0; loaded = true }) commands
-unfolding reads fields_of spoken keyword_of own_line field_of field_line vector root_line coroot_line bare_line word_line word letters few_letters letter torus_letter spelled unit spelled_list units number_of integer number numbers natural
+unfolding reads fields_of spoken keyword_of own_line field_of field_line vector root_line coroot_line bare_line word_line weyl_line word letters few_letters letter torus_letter spelled unit spelled_list units number_of integer number numbers natural
 commands_read = refl

@@ -26,6 +26,7 @@ Fits awaited sizes line.Load = awaited ≡ wants.Load
 Fits awaited sizes (line.Form w) =
     (awaited ≡ wants.Command) × ((f : FrameData) → HasField sizes f.field → dim f ≡ sizes.d → IsWordOver f w)
 Fits awaited sizes line.Roots = awaited ≡ wants.Command
+Fits awaited sizes (line.Weyl indices) = (awaited ≡ wants.Command) × All (λ i. is_within (pos 1) (pos sizes.l) i ≡ true) indices
 
 -- every line that passes its checks fits
 abbrev pub AcceptedLinesFit : Type 0

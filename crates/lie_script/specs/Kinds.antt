@@ -8,14 +8,15 @@
 --   load                          no fields
 --   form w                        a word of one or more fields
 --   roots                         no fields
-use Rattle.std.specs.Prelude.{ℕ, ◌+◌, ◌&&◌, nat_eq, nat_le, ℤ, pos, negsuc, nat_abs, List, [], ◌∷◌, length, take, get_or, Result, Ok}
+--   weyl i_1 .. i_n               indices of simple roots, at most 4,096; a lone `-` stands for none
+use Rattle.std.specs.Prelude.{ℕ, ◌+◌, ◌&&◌, nat_eq, nat_le, ℤ, pos, negsuc, nat_abs, List, [], ◌∷◌, length, take, get_or, codes, bytes_eq, Bool, false, if◌then◌else◌, Result, Ok}
 use Rattle.lie_letters.specs.declared.letter.Letter.{Letter}
 use Rattle.lie_script.specs.Fields.{Span}
 use Rattle.lie_script.specs.Checks.{◌>>=◌, unless, miscounted}
 use Rattle.lie_script.specs.Numbers.{numbers, natural}
 use Rattle.lie_script.specs.Letters.{word}
 use Rattle.lie_script.specs.declared.allowed.Allowed.{Allowed}
-use Rattle.lie_script.specs.declared.allowed.Allowed.TheVariants.{Within}
+use Rattle.lie_script.specs.declared.allowed.Allowed.TheVariants.{Within, SimpleOf}
 use Rattle.lie_script.specs.declared.faults.FaultName.TheVariants as fault
 use Rattle.lie_script.specs.declared.faults.Fault.{Fault}
 use Rattle.lie_script.specs.declared.faults.Fault.TheVariants.{Bare, At}
@@ -78,3 +79,21 @@ unfoldable pub word_line : Sizes → List Span → Result (List Letter) Fault
 word_line sizes fields = do
   some ← unless (nat_le 1 (length fields)) (At fault.Fields (length fields))
   word sizes fields
+
+-- the only field is `-`
+abbrev pub is_dash : List Span → Bool
+is_dash (field ∷ []) = bytes_eq field.bytes (codes "-")
+is_dash _ = false
+
+-- each field is an index of a simple root
+abbrev pub weyl_of : Sizes → List Span → Result Line Fault
+weyl_of sizes fields = do
+  indices ← numbers (SimpleOf sizes.l) fields
+  Ok (line.Weyl indices)
+
+-- `weyl i_1 .. i_n`, or `weyl -` without indices; the fields are counted first, and a lone `-` is looked for before numbers
+unfoldable pub weyl_line : Sizes → List Span → Result Line Fault
+weyl_line sizes fields = do
+  some ← unless (nat_le 1 (length fields)) (At fault.Fields (length fields))
+  few ← unless (nat_le (length fields) 4096) (At fault.Letters (length fields))
+  if is_dash fields then Ok (line.Weyl []) else weyl_of sizes fields

@@ -5,4 +5,6 @@
 pub enum Allowed {
     /// From the first to the second; else `range`.
     Within(i128, i128),
+    /// Indices of so many simple roots, counted from 1; else `simple`.
+    SimpleOf(usize),
 }

@@ -22,6 +22,8 @@ pub enum FaultName {
     Number,
     /// The number at a column is not in its range.
     Range,
+    /// The number at a column is no index of a simple root.
+    Simple,
     /// The number of letters, where there are too many.
     Letters,
     /// The field at a column spells no letter.

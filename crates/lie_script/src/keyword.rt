@@ -14,6 +14,7 @@ pub enum Keyword {
     Load,
     Form,
     Roots,
+    Weyl,
 }
 
 impl Keyword {
@@ -22,7 +23,7 @@ impl Keyword {
         ensures { result ≡ commands self }
     {
         match self {
-            Keyword::Form | Keyword::Roots => true,
+            Keyword::Form | Keyword::Roots | Keyword::Weyl => true,
             _ => false,
         }
     }
@@ -61,6 +62,8 @@ pub(crate) fn keyword_of(bytes: &[u8]) -> Option<Keyword>
         Some(Keyword::Form)
     } else if bytes == b"roots".as_slice() {
         Some(Keyword::Roots)
+    } else if bytes == b"weyl".as_slice() {
+        Some(Keyword::Weyl)
     } else {
         None
     }

@@ -1,7 +1,7 @@
 //! The kinds of lines.
 ghost use Rattle.std.specs.Prelude.{◌≡◌, ◌∷◌, [], pos, true, All};
 ghost use Rattle.lie_script.specs.Checks.{Gives};
-ghost use Rattle.lie_script.specs.Kinds.{field_of as field_of_read, field_line as field_line_read, datum_line as datum_line_read, vector as vector_read, root_line as root_line_read, coroot_line as coroot_line_read, bare_line as bare_line_read, word_line as word_line_read};
+ghost use Rattle.lie_script.specs.Kinds.{field_of as field_of_read, field_line as field_line_read, datum_line as datum_line_read, vector as vector_read, root_line as root_line_read, coroot_line as coroot_line_read, bare_line as bare_line_read, word_line as word_line_read, is_dash as lone_dash, weyl_line as weyl_line_read};
 ghost use Rattle.lie_script.specs.LineFields.{span, spans};
 ghost use Rattle.lie_script.specs.Numbers.{is_within};
 ghost use Rattle.lie_script.specs.Setting.{HasField, HasDatum};
@@ -151,4 +151,36 @@ pub(crate) fn word_line(
         return Err(Stop::Faulty(miscounted(0)));
     }
     word(alloc, sizes, field, datum, fields)
+}
+
+/// Whether the only field is `-`.
+fn is_dash(fields: &[LineField<'_>]) -> bool
+    ensures { result ≡ lone_dash (spans fields.now) }
+{
+    match fields {
+        [field] => field.bytes == b"-".as_slice(),
+        _ => false,
+    }
+}
+
+/// `weyl i_1 .. i_n`, or `weyl -` without indices.
+#[tactic(auto, unfolding(crate::specs::Kinds::weyl_line))]
+pub(crate) fn weyl_line(
+    alloc: Global,
+    sizes: &Sizes,
+    fields: &[LineField<'_>],
+) -> Result<Line, Stop>
+    ensures { Gives (λ line. line) result (weyl_line_read sizes.now (spans fields.now)) }
+{
+    if fields.is_empty() {
+        return Err(Stop::Faulty(miscounted(0)));
+    }
+    if fields.len() > 4096 {
+        return Err(Stop::Faulty(Fault::At(FaultName::Letters, fields.len())));
+    }
+    if is_dash(fields) {
+        return Ok(Line::Weyl(Numbers::of(Vec::new(alloc))));
+    }
+    let indices = numbers(alloc, Allowed::SimpleOf(sizes.l), fields)?;
+    Ok(Line::Weyl(Numbers::of(indices)))
 }

@@ -24,4 +24,6 @@ pub enum Line {
     Load,
     Form(Word),
     Roots,
+    /// The indices of simple reflections, counted from 1; the last acts first.
+    Weyl(Numbers),
 }

@@ -93,6 +93,7 @@ impl Allowed {
     {
         match self {
             Allowed::Within(low, high) => low <= n && n <= high,
+            Allowed::SimpleOf(l) => 1 <= n && n <= l as i128,
         }
     }
 
@@ -101,6 +102,7 @@ impl Allowed {
     {
         match self {
             Allowed::Within(_, _) => FaultName::Range,
+            Allowed::SimpleOf(_) => FaultName::Simple,
         }
     }
 }

@@ -11,7 +11,9 @@ use crate::faults::{Fault, FaultName, LineFault, Stop};
 use crate::fields::{LineField, fields, foreign_column};
 use crate::kept::Numbers;
 use crate::keyword::{Keyword, keyword_of};
-use crate::kinds::{bare_line, coroot_line, datum_line, field_line, root_line, word_line};
+use crate::kinds::{
+    bare_line, coroot_line, datum_line, field_line, root_line, weyl_line, word_line,
+};
 use crate::line::Line;
 use crate::names::Names;
 use crate::sizes::{Sizes, Wants};
@@ -62,6 +64,7 @@ fn own_line<N: Names>(
             Ok(Line::Form(word_line(alloc, sizes, field, datum, spelled)?))
         }
         Keyword::Roots => Ok(bare_line(Line::Roots, spelled)?),
+        Keyword::Weyl => weyl_line(alloc, sizes, spelled),
     }
 }
 

@@ -31,6 +31,7 @@ impl FaultName {
             FaultName::Fields => b"fields".as_slice(),
             FaultName::Number => b"number".as_slice(),
             FaultName::Range => b"range".as_slice(),
+            FaultName::Simple => b"simple".as_slice(),
             FaultName::Letters => b"letters".as_slice(),
             FaultName::Letter => b"letter".as_slice(),
             FaultName::Torus => b"torus".as_slice(),

@@ -16,7 +16,7 @@ use Rattle.lie_session.specs.DatumLines.{DatumLines, opened, with_root, with_cor
 use Rattle.lie_session.specs.Faults.{field_refusal, datum_refusal}
 use Rattle.lie_session.specs.State.{State, whole, wants_of, sizes_of}
 use Rattle.lie_session.specs.Texts.{loaded_text, roots_text}
-use Rattle.lie_session.specs.Replies.{next_count, Refuses, Accepts, Answers, AnswersForm, KeepsField, KeepsDatum, ReadsDatum, InDatum, WithBoth, Does, Replies, line_refusal}
+use Rattle.lie_session.specs.Replies.{next_count, Refuses, Accepts, Answers, AnswersForm, AnswersWeyl, KeepsField, KeepsDatum, ReadsDatum, InDatum, WithBoth, Does, Replies, line_refusal}
 use Rattle.lie_session.specs.Changes.{Changes}
 use Rattle.lie_session.specs.declared.datum.DatumStage.{DatumStage}
 use Rattle.lie_session.specs.declared.datum.DatumStage.TheVariants as datum
@@ -99,6 +99,8 @@ does_steps s n (line.Form w) reply next h =
     with_both (λ F D. AnswersForm s F D.base.dim w reply next) s.field (whole s.datum) (λ F D a. answers_steps s s a.0 reply next refl refl stays a.2) h
 does_steps s n line.Roots reply next h =
     with_both (λ F D. Answers s (roots_text D) reply next) s.field (whole s.datum) (λ F D a. answers_steps s s (roots_text D) reply next refl refl stays a) h
+does_steps s n (line.Weyl indices) reply next h =
+    with_both (λ F D. AnswersWeyl s D indices reply next) s.field (whole s.datum) (λ F D a. answers_steps s s a.0 reply next refl refl stays a.2) h
 
 replied_steps : (s : State) (n : ℕ) (read : Result Line Fault) (reply : Reply) (next : State)
     → MatchResult read (λ said. Does s n said reply next) (λ why. Refuses s (line_refusal n (line_fault why)) reply next) → Steps s reply next

@@ -6,6 +6,7 @@ pub mod TextLemmas
 pub mod SpacedLemmas
 pub mod StateLemmas
 pub mod RootsLemmas
+pub mod WeylLemmas
 pub mod ChangeLemmas
 pub mod OneOutputLemmas
 pub mod StatusLemmas

@@ -4,7 +4,7 @@ use Rattle.std.specs.Prelude.{MatchOption, MatchResult, ℤ, map, nat_abs}
 use Rattle.std.specs.Bool.{MatchBool}
 use Rattle.std.specs.Option.{IfSome}
 use Rattle.lie_datum.specs.Load.{Loads}
-use Rattle.lie_datum.specs.RootList.{Roots}
+use Rattle.lie_datum.specs.RootList.{Roots, IsLoaded}
 use Rattle.lie_datum.specs.declared.faults.DatumFault.{DatumFault}
 use Rattle.lie_datum.specs.declared.faults.DatumFault.TheVariants as datum_fault
 use Rattle.lie_datum.proofs.OneAnswer.{loads_one_way}
@@ -27,7 +27,7 @@ use Rattle.lie_session.specs.Faults.{field_refusal, datum_refusal}
 use Rattle.lie_session.specs.Lines.{lines_of}
 use Rattle.lie_session.specs.State.{State, fresh, whole, wants_of, sizes_of}
 use Rattle.lie_session.specs.Texts.{loaded_text, roots_text}
-use Rattle.lie_session.specs.Replies.{Refuses, Accepts, Answers, KeepsField, KeepsDatum, ReadsDatum, InDatum, AnswersForm, Does, Replies, RepliesAtEnd, line_refusal}
+use Rattle.lie_session.specs.Replies.{Refuses, Accepts, Answers, KeepsField, KeepsDatum, ReadsDatum, InDatum, AnswersForm, AnswersWeyl, Does, Replies, RepliesAtEnd, line_refusal}
 use Rattle.lie_session.specs.Output.{rests, RepliesTo, AreReplies, bytes_of, status_of, IsOutput}
 use Rattle.lie_session.specs.declared.datum.DatumStage.{DatumStage}
 use Rattle.lie_session.specs.declared.datum.DatumStage.TheVariants as datum
@@ -36,6 +36,7 @@ use Rattle.lie_session.specs.declared.reply.Reply.{Reply}
 use Rattle.lie_session.specs.declared.status.Status.{Status}
 use Rattle.lie_session.proofs.ChangeLemmas.{IsSoundState, sound_from}
 use Rattle.lie_session.proofs.TextLemmas.{one_text}
+use Rattle.lie_session.proofs.WeylLemmas.{one_weyl_text}
 
 -- one reply, and one state after it
 abbrev Same : Reply → Reply → State → State → Type 0
@@ -120,6 +121,13 @@ one_form s w None d r r' t t' sized h h' = absurd h
 one_form s w (Some F) None r r' t t' sized h h' = absurd h
 one_form s w (Some F) (Some D) r r' t t' sized h h' = answered_alike s h.0 h'.0 r r' t t' (one_text F D.base.dim w h.0 h'.0 sized h.1 h'.1) h.2 h'.2
 
+one_weyl : (s : State) (indices : List ℤ) (field : Option FiniteField) (d : Option Roots) (r r' : Reply) (t t' : State) → IfSome d IsLoaded
+    → MatchOption field ⊥ (λ F. MatchOption d ⊥ (λ D. AnswersWeyl s D indices r t))
+    → MatchOption field ⊥ (λ F. MatchOption d ⊥ (λ D. AnswersWeyl s D indices r' t')) → Same r r' t t'
+one_weyl s indices None d r r' t t' loaded h h' = absurd h
+one_weyl s indices (Some F) None r r' t t' loaded h h' = absurd h
+one_weyl s indices (Some F) (Some D) r r' t t' loaded h h' = answered_alike s h.0 h'.0 r r' t t' (one_weyl_text D indices h.0 h'.0 loaded h.1 h'.1) h.2 h'.2
+
 one_done : (s : State) (n : ℕ) (said : Line) (r r' : Reply) (t t' : State) → IsSoundState s → Does s n said r t → Does s n said r' t' → Same r r' t t'
 one_done s n line.Silent r r' t t' sound h h' = both h h'
 one_done s n (line.Field p k coeffs g) r r' t t' sound h h' = one_field s n p coeffs g r r' t t' h h'
@@ -129,6 +137,7 @@ one_done s n (line.Coroot v) r r' t t' sound h h' = one_in_datum s n (λ lines. 
 one_done s n line.Load r r' t t' sound h h' = one_answer (record s { loaded = true }) loaded_text s.field (whole s.datum) r r' t t' h h'
 one_done s n (line.Form w) r r' t t' sound h h' = one_form s w s.field (whole s.datum) r r' t t' sound.sized h h'
 one_done s n line.Roots r r' t t' sound h h' = one_answer s (λ F D. roots_text D) s.field (whole s.datum) r r' t t' h h'
+one_done s n (line.Weyl indices) r r' t t' sound h h' = one_weyl s indices s.field (whole s.datum) r r' t t' sound.loaded h h'
 
 one_said : (s : State) (n : ℕ) (read : Result Line Fault) (r r' : Reply) (t t' : State) → IsSoundState s
     → MatchResult read (λ said. Does s n said r t) (λ why. Refuses s (line_refusal n (line_fault why)) r t)

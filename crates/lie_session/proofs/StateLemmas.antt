@@ -1,6 +1,7 @@
 -- What is awaited tells what a session holds.
-use Rattle.std.proofs.Common.{◌≡◌, ℕ, ◌≤◌, Bool, true, false, cond, Option, Some, None, refl, sym, ap, ◌∙◌, subst, arith, Result, Ok, Err, length, List}
+use Rattle.std.proofs.Common.{◌≡◌, ℕ, ◌≤◌, Bool, true, false, cond, Option, Some, None, refl, sym, ap, ◌∙◌, subst, arith, Result, Ok, Err, length, List, pos}
 use Rattle.std.specs.Prelude.{⊤, ◌||◌, nat_lt, MatchResult, IfOk, ℤ}
+use Rattle.std.specs.List.{All}
 use Rattle.std.specs.Option.{IfSome, IsSome, IsSomeAnd}
 use Rattle.std.proofs.lemmas.Result.{IfOk-at_ok}
 use Rattle.std.proofs.lemmas.Bool.{false≢true}
@@ -12,6 +13,7 @@ use Rattle.lie_letters.specs.Spelled.{IsWordOver}
 use Rattle.lie_letters.specs.declared.letter.Letter.{Letter}
 use Rattle.lie_script.specs.Accepted.{Fits}
 use Rattle.lie_script.specs.Names.{none_listed}
+use Rattle.lie_script.specs.Numbers.{is_within}
 use Rattle.lie_script.specs.Reading.{reads}
 use Rattle.lie_script.specs.Setting.{HasField, HasDatum, awaits_both, IsSetting, answer_of}
 use Rattle.lie_script.specs.Texts.{line_fault}
@@ -23,7 +25,7 @@ use Rattle.lie_script.specs.declared.sizes.Wants.{Wants}
 use Rattle.lie_script.specs.declared.sizes.Wants.TheVariants as wants
 use Rattle.lie_script.proofs.CallerLemmas.{accepted-fits, answer-keeps}
 use Rattle.lie_session.specs.DatumLines.{DatumLines, opened, with_root, with_coroot, datum_wants}
-use Rattle.lie_session.specs.Ready.{Holds, Ready}
+use Rattle.lie_session.specs.Ready.{Holds, AreIndices, Ready}
 use Rattle.lie_session.specs.Replies.{InDatum, ReadsDatum, Refuses, Does, Replies, line_refusal, torus_frame}
 use Rattle.lie_session.specs.State.{State, whole, load_wants, stage_wants, wants_from, wants_of, dim_of, rank_of, count_of, order_of, sizes_of}
 use Rattle.lie_session.specs.declared.datum.DatumStage.{DatumStage}
@@ -110,6 +112,13 @@ word_from (Some F) datum.Missing w there over = absurd (false≢true there.1)
 word_from (Some F) (datum.Reading lines) w there over = absurd (false≢true there.1)
 word_from (Some F) (datum.Whole D) w there over = over (torus_frame F D.base.dim) refl refl
 
+indices_from : (field : Option FiniteField) (stage : DatumStage) (indices : List ℤ) → IsSome field × IsSome (whole stage)
+    → All (λ i. is_within (pos 1) (pos (rank_of stage)) i ≡ true) indices → IsSomeAnd field (λ F. IsSomeAnd (whole stage) (λ D. AreIndices D indices))
+indices_from None stage indices there within = absurd (false≢true there.0)
+indices_from (Some F) datum.Missing indices there within = absurd (false≢true there.1)
+indices_from (Some F) (datum.Reading lines) indices there within = absurd (false≢true there.1)
+indices_from (Some F) (datum.Whole D) indices there within = within
+
 -- a session can do what a line says that fits
 ready_from : (s : State) (said : Line) → Holds s → Fits (wants_of s) (sizes_of s) said → Ready s said
 ready_from s line.Silent holds fits = tt
@@ -120,6 +129,7 @@ ready_from s (line.Coroot v) holds fits = reading_from s.field s.datum s.loaded 
 ready_from s line.Load holds fits = later_from s.field s.datum s.loaded (subst IsLater (sym fits) tt)
 ready_from s (line.Form w) holds fits = word_from s.field s.datum w (later_from s.field s.datum s.loaded (subst IsLater (sym fits.0) tt)) fits.1
 ready_from s line.Roots holds fits = later_from s.field s.datum s.loaded (subst IsLater (sym fits) tt)
+ready_from s (line.Weyl indices) holds fits = indices_from s.field s.datum indices (later_from s.field s.datum s.loaded (subst IsLater (sym fits.0) tt)) fits.1
 
 -- a session can do what a line says that was answered
 pub ready_said : (s : State) (bytes : List ℕ) (answer : Result Line LineFault) (said : Line) → Holds s → answer ≡ answer_of (reads (wants_of s) (sizes_of s) none_listed bytes) → answer ≡ Ok said → Ready s said

@@ -27,10 +27,11 @@ use Rattle.lie_script.specs.declared.faults.FaultName.TheVariants as fault
 use Rattle.lie_script.specs.declared.faults.LineFault.{LineFault}
 use Rattle.lie_script.specs.declared.line.Line.{Line}
 use Rattle.lie_script.specs.declared.line.Line.TheVariants as line
+use Rattle.lie_weyl.specs.WeylElement.{Spells, IsLength, IsLeastWord}
 use Rattle.lie_session.specs.DatumLines.{DatumLines, opened, with_root, with_coroot, is_whole, base_of}
 use Rattle.lie_session.specs.Faults.{field_refusal, datum_refusal}
 use Rattle.lie_session.specs.State.{State, whole, wants_of, sizes_of}
-use Rattle.lie_session.specs.Texts.{loaded_text, form_text, roots_text}
+use Rattle.lie_session.specs.Texts.{loaded_text, form_text, roots_text, weyl_text}
 use Rattle.lie_session.specs.declared.datum.DatumStage.{DatumStage}
 use Rattle.lie_session.specs.declared.datum.DatumStage.TheVariants as datum
 use Rattle.lie_session.specs.declared.reply.Kind.TheVariants as kind
@@ -97,6 +98,18 @@ FormTextOf F d w text = (t : List ℕ) × JoinedSpelled (torus_frame F d) (H t �
 abbrev pub AnswersForm : State → FiniteField → ℕ → List Letter → Reply → State → Type 0
 AnswersForm s F d w reply next = (text : List ℕ) × FormTextOf F d w text × Answers s text reply next
 
+-- the text of the element with these images: its length, its least word and the images
+abbrev pub TellsElement : Roots → List ℤ → List ℕ → Type 0
+TellsElement D images text = (n : ℕ) × (least : List ℕ) × IsLength D images n × IsLeastWord D least images × (text ≡ weyl_text n least images)
+
+-- the text of the product of the simple reflections with these indices
+abbrev pub WeylTextOf : Roots → List ℤ → List ℕ → Type 0
+WeylTextOf D indices text = (images : List ℤ) × Spells D (map nat_abs indices) images × TellsElement D images text
+
+-- the answer is the text of the product
+abbrev pub AnswersWeyl : State → Roots → List ℤ → Reply → State → Type 0
+AnswersWeyl s D indices reply next = (text : List ℕ) × WeylTextOf D indices text × Answers s text reply next
+
 -- ---- any line
 
 -- what is done with a line that was read
@@ -109,6 +122,7 @@ Does s n (line.Coroot v) reply next = InDatum s.datum (λ lines. ReadsDatum s n 
 Does s n line.Load reply next = WithBoth s (λ F D. Answers (record s { loaded = true }) (loaded_text F D) reply next)
 Does s n (line.Form w) reply next = WithBoth s (λ F D. AnswersForm s F D.base.dim w reply next)
 Does s n line.Roots reply next = WithBoth s (λ F D. Answers s (roots_text D) reply next)
+Does s n (line.Weyl indices) reply next = WithBoth s (λ F D. AnswersWeyl s D indices reply next)
 
 -- the refusal of a line
 abbrev pub line_refusal : ℕ → LineFault → List ℕ

@@ -3,6 +3,7 @@
 --
 --   loaded q d n e     the elements of the field, the coordinates, the roots, and the dimension of the faithful module:
 --                      d where there are no roots, else `-`
+--   n | w | r          the length, the least word and the images of the simple roots; `-` stands for an empty list
 --   roots m            then a line for each positive root: its number, its coefficients, its vector and that of its coroot
 use Rattle.std.specs.Prelude.{ℕ, ◌+◌, ◌*◌, nat_eq, if◌then◌else◌, ℤ, pos, List, [], ◌∷◌, ◌++◌, map, take, length, codes, decimal}
 use Rattle.std.specs.List.{join_with_byte}
@@ -41,3 +42,13 @@ root_texts b k (r ∷ rs) = root_text b k r ++ root_texts b (k + 1) rs
 -- the reply to `roots`
 abbrev pub roots_text : Roots → List ℕ
 roots_text D = codes "roots " ++ decimal (length D.positive) ++ codes "\n" ++ root_texts D.base 1 D.positive
+
+-- numbers, each after a space, or ` -` where there is none
+abbrev pub listed_text : List ℤ → List ℕ
+listed_text [] = codes " -"
+listed_text (n ∷ ns) = spaced (n ∷ ns)
+
+-- the reply to `weyl`, by the length, the least word and the images of the simple roots
+abbrev pub weyl_text : ℕ → List ℕ → List ℤ → List ℕ
+weyl_text n least images =
+    decimal n ++ codes " |" ++ listed_text (map (λ i. pos i) least) ++ codes " |" ++ listed_text images ++ codes "\n"

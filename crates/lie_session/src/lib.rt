@@ -4,7 +4,7 @@
 //! `specs/State.antt` (what a session holds, and the line that it awaits), `specs/Replies.antt` (the
 //! reply to a line), `specs/Output.antt` (the replies to a script) and `specs/Runs.antt` (the cause of
 //! each status). What a line says is read by `lie_script`. The crate stands on `lie_kit`, `lie_field`,
-//! `lie_datum`, `lie_letters` and `lie_script`.
+//! `lie_datum`, `lie_weyl`, `lie_letters` and `lie_script`.
 #![tactic(auto)]
 
 mod cutting;
@@ -18,6 +18,7 @@ mod reply;
 mod session;
 mod status;
 mod texts;
+mod weyl;
 
 pub use mode::Mode;
 pub use program::lie;

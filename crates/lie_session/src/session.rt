@@ -14,6 +14,7 @@ use crate::datum::{DatumLines, DatumStage};
 use crate::product::product;
 use crate::reply::{Kind, Reply};
 use crate::texts::{form_text, loaded_text, roots_text};
+use crate::weyl::weyl_text;
 use lie_datum::{Datum, DatumFault, Side};
 use lie_field::{Field, FieldFault};
 use lie_letters::Word;
@@ -353,6 +354,10 @@ impl Session {
             Line::Roots => {
                 let (_field, datum) = self.both();
                 Ok(answer(roots_text(alloc, datum)?))
+            }
+            Line::Weyl(indices) => {
+                let (_field, datum) = self.both();
+                Ok(answer(weyl_text(alloc, datum, &indices)?))
             }
         }
     }

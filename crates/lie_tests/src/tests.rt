@@ -214,6 +214,43 @@ fn refused_data(rt: HostRuntime) -> Result<(), Fail> {
 }
 
 #[test]
+fn weyl_elements(rt: HostRuntime) -> Result<(), Fail> {
+    // line 8 after SL3, its reply, the status
+    let cases = [
+        ("weyl 2 1 2", "3 | 1 2 1 | -2 -1\n", Status::Done),
+        ("weyl 1 2", "2 | 1 2 | 2 -3\n", Status::Done),
+        ("weyl -", "0 | - | 1 2\n", Status::Done),
+        ("weyl 0", "refused 8 simple 6\n", Status::Refused),
+        ("weyl 1 -", "refused 8 number 8\n", Status::Refused),
+        ("weyl - -", "refused 8 number 6\n", Status::Refused),
+        (
+            "weyl 1 0000000000000000001",
+            "refused 8 range 8\n",
+            Status::Refused,
+        ),
+    ];
+    for (line, reply, status) in cases {
+        let mut output = String::from_str(rt.alloc(), "loaded 3 2 6 -\n")?;
+        output.push_str(reply)?;
+        assert!(rt;
+            runs(rt.alloc(), PLAIN, SL3, line, &output, status)?,
+            "at {line}"
+        );
+    }
+    assert!(rt;
+        runs(
+            rt.alloc(),
+            PLAIN,
+            TORUS,
+            "weyl -",
+            "loaded 5 1 0 1\n0 | - | -\n",
+            Status::Done
+        )?
+    );
+    Ok(())
+}
+
+#[test]
 fn refused_commands(rt: HostRuntime) -> Result<(), Fail> {
     // line 6 after SL2, and what it gives after the reply to `load`
     let cases = [

@@ -1,0 +1,4 @@
+pub mod Padding
+pub mod WeylElement
+pub mod Descents
+pub mod Laws
