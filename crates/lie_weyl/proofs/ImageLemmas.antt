@@ -3,11 +3,14 @@ use Rattle.std.proofs.Common.{◌≡◌, ℕ, zero, suc, ◌-◌, ◌+◌, ◌+�
 use Rattle.std.proofs.lemmas.List.{get_or_default, get_or-set_same, get_or-set_other}
 use Rattle.std.specs.List.{All}
 use Rattle.std.proofs.Math.ListN.{length-set, length-map, get_or-map}
-use Rattle.std.specs.Option.{IsSome}
+use Rattle.std.specs.Option.{IsSome, unwrap_or}
 use Rattle.std.proofs.lemmas.List.Elements.{All-from_get_or, All-set}
 use Rattle.lie_datum.specs.declared.root_pair.Root.{Root}
 use Rattle.lie_datum.specs.Vectors.{Vector, unit, entry, times, plus, combination}
 use Rattle.lie_datum.specs.RootDatum.{simple, reflected, IsSimpleIndex, IsRoot, is_simple, rank, IsWithin}
+use Rattle.lie_datum.specs.Numbers.{number_at}
+use Rattle.lie_datum.specs.Laws.{SimplesFirst}
+use Rattle.lie_datum.proofs.NumberLemmas.{within, numbered_at, root_at}
 use Rattle.lie_datum.specs.RootList.{Roots, IsLoaded, IsNumber, root_of, NamesRoot}
 use Rattle.lie_datum.proofs.SignedRoots.{root_is, same_coeffs, same_number}
 use Rattle.lie_weyl.specs.Padding.{IsPadded}
@@ -30,18 +33,27 @@ module _ (d : Roots) (loaded : IsLoaded d) (r : Root) (root : IsRoot d.base r) w
       let same : j ≡ k = cc in
       same_coeffs d loaded (root_of d k) r (root_is d loaded k (subst (IsNumber d) same h.0)) root (subst (λ z. (root_of d z).coeffs ≡ v) same h.1 ∙ sym e)
 
--- the unit vector as it is written
-pub unit_set : (i : ℕ) → 1 ≤ i → i ≤ 8 → unit 8 i ≡ set (pos 0 ∷ (pos 0 ∷ (pos 0 ∷ (pos 0 ∷ (pos 0 ∷ (pos 0 ∷ (pos 0 ∷ (pos 0 ∷ [])))))))) (i - 1) (pos 1)
-unit_set zero p q = absurd (omega (arith, p))
-unit_set (suc zero) p q = refl
-unit_set (suc (suc zero)) p q = refl
-unit_set (suc (suc (suc zero))) p q = refl
-unit_set (suc (suc (suc (suc zero)))) p q = refl
-unit_set (suc (suc (suc (suc (suc zero))))) p q = refl
-unit_set (suc (suc (suc (suc (suc (suc zero)))))) p q = refl
-unit_set (suc (suc (suc (suc (suc (suc (suc zero))))))) p q = refl
-unit_set (suc (suc (suc (suc (suc (suc (suc (suc zero)))))))) p q = refl
-unit_set (suc (suc (suc (suc (suc (suc (suc (suc (suc i))))))))) p q = absurd (omega (arith, q))
+-- ---- the simple roots stand first
+-- the number at the place of a simple root
+pub record IsSimpleNumber (d : Roots) (i : ℕ) : Type 0 where
+  pub place : i - 1 < length d.positive
+  pub number : IsNumber d (number_at (length d.positive) (i - 1))
+  pub root : root_of d (number_at (length d.positive) (i - 1)) ≡ simple i
+
+pub simple_number : (d : Roots) → SimplesFirst d → (i : ℕ) → IsSimpleIndex d.base i → IsSimpleNumber d i
+simple_number d first zero s = absurd (omega (arith, s.0))
+simple_number d first (suc i) s =
+    let e = first (suc i) s in
+    let some : IsNumber d (pos (suc i)) = subst IsSome (sym e) refl in
+    let k : suc i - 1 ≡ i = omega arith in
+    let p = within d.positive i some in
+    let at = numbered_at d (suc i - 1) (omega (arith, p)) in
+    let none : Root = record { coeffs = []; co_coeffs = [] } in
+    record {
+      place = omega (arith, p);
+      number = at.number;
+      root = sym (at.root none) ∙ root_at d (pos (suc i)) none some ∙ ap (λ o. unwrap_or o none) e;
+    }
 
 -- ---- images one by one
 -- z is the number of the image of a_(j + 1)

@@ -10,3 +10,4 @@ pub mod DescentRuns
 pub mod GreedyLemmas
 pub mod ElementLemmas
 pub mod ImageLemmas
+mod WorkedExamples

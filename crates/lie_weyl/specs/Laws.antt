@@ -28,7 +28,7 @@ LeftLengths =
 abbrev pub InverseLengths : Type 0
 InverseLengths = (d : Roots) → IsLoaded d → (w : List ℕ) → AreLetters d.base w → word_length d (reverse w) ≡ word_length d w
 
--- w, or a product of the same roots' images, has a word with n letters
+-- the product of w has a word of n letters
 pub record HasWord (d : Roots) (w : List ℕ) (n : ℕ) : Type 0 where
   pub word : List ℕ
   pub letters : AreLetters d.base word

@@ -14,3 +14,6 @@ mod weyl;
 
 pub use laws::{exchange, greedy_is_least, inverse_lengths, one_factor_more, shortest_words};
 pub use weyl::Weyl;
+
+#[cfg(test)]
+mod tests;

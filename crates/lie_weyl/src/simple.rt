@@ -4,7 +4,7 @@ ghost use Rattle.std.specs.Prelude.{◌≡◌};
 ghost use Rattle.lie_datum.specs.RootDatum.{IsSimpleIndex, simple};
 ghost use Rattle.lie_datum.specs.RootList.{IsNumber, root_of};
 
-use lie_datum::{Datum, RootId};
+use lie_datum::{Datum, RootId, simples_first};
 
 /// The i-th simple root, with i counted from 1.
 pub(crate) fn simple_root(datum: &Datum, i: usize) -> RootId
@@ -13,7 +13,6 @@ pub(crate) fn simple_root(datum: &Datum, i: usize) -> RootId
     ensures root { root_of datum.now result ≡ simple i }
 {
     datum.loaded();
-    let mut unit = [0; 8];
-    unit[i - 1] = 1;
-    datum.named(&unit).unwrap()
+    simples_first();
+    RootId::at(i - 1, datum.m())
 }

@@ -55,7 +55,8 @@ impl Weyl {
     pub fn times_simple(&self, datum: &Datum, i: usize) -> Weyl
         requires element { IsElement datum.now self.now }
         requires index { IsSimpleIndex datum.now.base i }
-        ensures { (w : List ℕ) → Spells datum.now w self.now → Spells datum.now (w ++ i ∷ []) result }
+        ensures element { IsElement datum.now result }
+        ensures word { (w : List ℕ) → Spells datum.now w self.now → Spells datum.now (w ++ i ∷ []) result }
     {
         self.mul(datum, &Weyl::identity(datum).simple_times(datum, i))
     }
@@ -64,7 +65,8 @@ impl Weyl {
     pub fn simple_times(&self, datum: &Datum, i: usize) -> Weyl
         requires element { IsElement datum.now self.now }
         requires index { IsSimpleIndex datum.now.base i }
-        ensures { (w : List ℕ) → Spells datum.now w self.now → Spells datum.now (i ∷ w) result }
+        ensures element { IsElement datum.now result }
+        ensures word { (w : List ℕ) → Spells datum.now w self.now → Spells datum.now (i ∷ w) result }
     {
         let l = self.l;
         let mut images = self.images;
@@ -78,7 +80,8 @@ impl Weyl {
     pub fn mul(&self, datum: &Datum, b: &Weyl) -> Weyl
         requires element { IsElement datum.now self.now }
         requires b { IsElement datum.now b.now }
-        ensures { (w v : List ℕ) → Spells datum.now w self.now → Spells datum.now v b.now → Spells datum.now (w ++ v) result }
+        ensures element { IsElement datum.now result }
+        ensures word { (w v : List ℕ) → Spells datum.now w self.now → Spells datum.now v b.now → Spells datum.now (w ++ v) result }
     {
         let l = b.l;
         let mut images = b.images;
@@ -91,7 +94,8 @@ impl Weyl {
     /// The inverse: its word is read off the descents of the element.
     pub fn inverse(&self, datum: &Datum) -> Weyl
         requires { IsElement datum.now self.now }
-        ensures { (w : List ℕ) → Spells datum.now w self.now → Spells datum.now (reverse w) result }
+        ensures element { IsElement datum.now result }
+        ensures word { (w : List ℕ) → Spells datum.now w self.now → Spells datum.now (reverse w) result }
     {
         Weyl::from_word(datum, &self.inverse_word(datum))
     }

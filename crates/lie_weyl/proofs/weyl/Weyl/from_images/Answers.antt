@@ -11,7 +11,7 @@ pub returns-then-eq : goal.returns-then-eq
 returns-then-eq c =
     let d = c.args.datum.now in
     (sym c.images.ensures ∙ (signed_items c.images.result.now c.args.images.now).0 (sym c.eq.ensures ∙ c.if-eq.true),
-      (reverse c.deref.result.now, c.inverse-w.ensures c.deref.result.now c.from_word.ensures))
+      (reverse c.deref.result.now, c.inverse-w.ensures.word c.deref.result.now c.from_word.ensures))
 
 pub returns-else-eq : goal.returns-else-eq
 returns-else-eq c = λ e.
@@ -21,7 +21,7 @@ returns-else-eq c = λ e.
     let p = c.descents-word.result.items in
     let least = c.descents-word.ensures.least w s.letters (spelled_heights d w c.args.images.now c.heights.result s c.heights.ensures.heights) in
     let h = subst (λ v. Spells d v c.from_word.result) c.deref.ensures.0 c.from_word.ensures in
-    let g = c.inverse-w.ensures p h in
+    let g = c.inverse-w.ensures.word p h in
     let k = is_word d.base w s.letters in
     let back = reverse_same d c.loaded.ensures (reverse w) p (IsWord-reverse d.base w k) (is_word d.base p least.letters) least.same in
     let t = respelled d (reverse p) w c.inverse-w.result g s.letters (λ r m. sym (back r m) ∙ ap (λ v. moved d.base v r) (reverse-reverse w)) in

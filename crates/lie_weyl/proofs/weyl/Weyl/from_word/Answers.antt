@@ -14,4 +14,4 @@ loop-k-preserved c =
     let f : n - k ≡ n - (k + 1) + 1 = omega (arith, t) in
     subst (λ v. Spells d v c.simple_times-product.result)
     (ap (λ i. get_or w i 0 ∷ drop (n - k) w) e ∙ ap (λ i. get_or w (n - (k + 1)) 0 ∷ drop i w) f ∙ sym (drop_more w (n - (k + 1)) 0 (omega (arith, t))))
-    (c.simple_times-product.ensures (drop (n - k) w) c.loop-k.invariant)
+    (c.simple_times-product.ensures.word (drop (n - k) w) c.loop-k.invariant)

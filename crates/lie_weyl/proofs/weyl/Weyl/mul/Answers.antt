@@ -1,4 +1,4 @@
-use Rattle.std.proofs.Common.{◌≡◌, ℕ, List, ◌<◌, sym, ap, subst, ◌∙◌, arith, take}
+use Rattle.std.proofs.Common.{◌++◌, ◌≡◌, ℕ, List, ◌<◌, sym, ap, subst, ◌∙◌, arith, take}
 use Rattle.lie_datum.specs.RootList.{IsNumber, root_of}
 use Rattle.lie_weyl.specs.WeylElement.{moved, Spells}
 use Rattle.lie_weyl.proofs.Words.{is_word, are_letters, IsWord-append, moved-append}
@@ -36,8 +36,8 @@ invariant_of-result c =
     let a = c.b.inside in
     filled_padded d (λ r s. (w : List ℕ) → Spells d w c.args.self.now → s ≡ moved d.base w r) a.images c.loop-k.images a.l c.loop-k.k c.b.invariant c.loop-k-test.false c.loop-k.auto.k-end c.loop-k.invariant
 
-pub returns : goal.returns
-returns c w v g h =
+pub returns-clause-word : goal.returns-clause-word
+returns-clause-word c w v g h =
     let d = c.args.datum.now in
     let a = c.b.inside in
     let low = c.b.invariant.count in
@@ -49,3 +49,6 @@ returns c w v g h =
       number = step.number;
       root = step.step w g ∙ ap (moved d.base w) (spells_at d a.l a.images low c.b.invariant.places v s j q).root ∙ sym (moved-append d.base w v _);
     }))
+
+pub returns-clause-element : goal.returns-clause-element
+returns-clause-element c = (c.requires.element.0 ++ c.requires.b.0, returns-clause-word c c.requires.element.0 c.requires.b.0 c.requires.element.1 c.requires.b.1)

@@ -1,4 +1,4 @@
-use Rattle.std.proofs.Common.{◌≡◌, ℕ, ◌<◌, sym, ap, subst, ◌∙◌, arith, take}
+use Rattle.std.proofs.Common.{◌∷◌, ◌≡◌, ℕ, ◌<◌, sym, ap, subst, ◌∙◌, arith, take}
 use Rattle.std.proofs.lemmas.List.Elements.{All-cons}
 use Rattle.lie_datum.specs.RootDatum.{reflected, IsSimpleIndex}
 use Rattle.lie_datum.specs.RootList.{IsNumber, root_of}
@@ -37,8 +37,8 @@ invariant_of-result c =
     let a = c.self.inside in
     filled_padded d (λ r s. s ≡ reflected d.base c.args.i r) a.images c.loop-k.images a.l c.loop-k.k c.self.invariant c.loop-k-test.false c.loop-k.auto.k-end c.loop-k.invariant
 
-pub returns : goal.returns
-returns c w h =
+pub returns-clause-word : goal.returns-clause-word
+returns-clause-word c w h =
     let d = c.args.datum.now in
     let a = c.self.inside in
     let low = c.self.invariant.count in
@@ -50,3 +50,6 @@ returns c w h =
       number = step.number;
       root = step.step ∙ ap (reflected d.base c.args.i) (spells_at d a.l a.images low c.self.invariant.places w s j q).root;
     }))
+
+pub returns-clause-element : goal.returns-clause-element
+returns-clause-element c = (c.args.i ∷ c.requires.element.0, returns-clause-word c c.requires.element.0 c.requires.element.1)
