@@ -60,11 +60,12 @@ loop-k-preserved c =
     let places = c.loop-k.invariant.0 in
     let e : k + 1 ≡ suc k = omega arith in
     let value = sum_is c.from.result (entry c.args.heights.now (i - 1)) (entry c.loop-k.turned k) f q old
-        ∙ ap (λ z. z +ℤ (c.from.result -ℤ pos 1) *ℤ entry c.args.heights.now (i - 1)) same
-        ∙ ap (λ z. entry c.args.heights.now k +ℤ (z -ℤ pos 1) *ℤ entry c.args.heights.now (i - 1)) (from ∙ is ∙ ap (λ n. height (reflected d.base i (simple n))) e) in
-    (length-set c.loop-k.turned k _ ∙ places,
+    ∙ ap (λ z. z +ℤ (c.from.result -ℤ pos 1) *ℤ entry c.args.heights.now (i - 1)) same
+    ∙ ap (λ z. entry c.args.heights.now k +ℤ (z -ℤ pos 1) *ℤ entry c.args.heights.now (i - 1)) (from ∙ is ∙ ap (λ n. height (reflected d.base i (simple n))) e) in (
+      length-set c.loop-k.turned k _ ∙ places,
       below_more (λ z j. z ≡ entry c.args.heights.now j +ℤ (height (reflected d.base i (simple (suc j))) -ℤ pos 1) *ℤ entry c.args.heights.now (i - 1)) c.loop-k.turned _ k (pos 0) (omega (arith, places)) c.loop-k.invariant.1 value,
-      behind_more c.loop-k.turned c.args.heights.now _ k (pos 0) c.loop-k.invariant.2)
+      behind_more c.loop-k.turned c.args.heights.now _ k (pos 0) c.loop-k.invariant.2,
+    )
 
 pub returns-clause-turned : goal.returns-clause-turned
 returns-clause-turned c = λ j s.
