@@ -40,7 +40,7 @@ least() {
     input=$1
     shift
     for _ in 1 2 3; do
-        { time -p "$@" <"$input" >/dev/null; } 2>&1 | awk '/^user/ { print $2 }'
+        sh -c '"$@" >/dev/null; times' timed "$@" <"$input" | tail -1 | awk -F'[ms]' '{ print 60 * $1 + $2 }'
     done | sort -n | head -1
 }
 
