@@ -1,8 +1,8 @@
 -- What the loop that writes the word of descents keeps, and how it ends.
-use Rattle.std.proofs.Common.{◌≡◌, ℕ, suc, ◌+◌, ◌-◌, ◌<◌, ◌≤◌, ℤ, pos, ◌≤ℤ◌, List, [], ◌∷◌, ◌++◌, length, reverse, refl, sym, ap, subst, ◌∙◌, arith, ◌⊎◌, inl, inr, ⊎_elim}
+use Rattle.std.proofs.Common.{◌≡◌, ℕ, ◌+◌, ◌≤◌, pos, ◌≤ℤ◌, List, [], ◌∷◌, ◌++◌, length, reverse, subst, ◌∙◌, arith, ⊎_elim}
 use Rattle.std.proofs.lemmas.List.{append_assoc}
 use Rattle.lie_datum.specs.Vectors.{Vector, entry}
-use Rattle.lie_datum.specs.RootDatum.{IsSimpleIndex, IsWithin}
+use Rattle.lie_datum.specs.RootDatum.{IsWithin}
 use Rattle.lie_datum.specs.RootList.{Roots, IsLoaded}
 use Rattle.lie_weyl.specs.WeylElement.{word_length}
 use Rattle.lie_weyl.specs.Descents.{AreHeights, EndsAtRank, AreTurned, IsFirstNegative, IsLeastOf}
@@ -16,9 +16,10 @@ module _ (d : Roots) (loaded : IsLoaded d) (w : List ℕ) (h : IsWord d.base w) 
       AreDescents d w (word ++ (k + 1) ∷ []) × AreHeights d (w ++ (word ++ (k + 1) ∷ [])) turned
   run_more word left turned k a at ends f t =
       let whole = IsWord-append d.base w word h (descents_word d w word a) in
-      let least = first_descent d loaded (w ++ word) left k whole at ends f in
-      (descents_more d w word (k + 1) a least,
-        subst (λ v. AreHeights d v turned) (append_assoc w word ((k + 1) ∷ [])) (heights_turned d loaded (w ++ word) (k + 1) left turned whole least.index at t))
+      let least = first_descent d loaded (w ++ word) left k whole at ends f in (
+        descents_more d w word (k + 1) a least,
+        subst (λ v. AreHeights d v turned) (append_assoc w word ((k + 1) ∷ [])) (heights_turned d loaded (w ++ word) (k + 1) left turned whole least.index at t),
+      )
 
   -- where no height is below 0, the product is 1
   pub run_ends : (word : List ℕ) (left : Vector) → AreDescents d w word → AreHeights d (w ++ word) left → EndsAtRank d left → (IsWithin 800 left → (k : ℕ) → pos 0 ≤ℤ entry left k) → IsLeastOf d (reverse w) word

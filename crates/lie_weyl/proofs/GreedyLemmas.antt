@@ -1,7 +1,7 @@
 -- The greedy word of an element is the word of least descents of its inverse.
-use Rattle.std.proofs.Common.{◌≡◌, ℕ, List, [], ◌∷◌, ◌++◌, reverse, refl, sym, ap, subst, ◌∙◌}
+use Rattle.std.proofs.Common.{ℕ, List, [], ◌∷◌, ◌++◌, reverse, sym, ap, subst, ◌∙◌}
 use Rattle.std.proofs.lemmas.List.{append_assoc, append-nil, reverse-reverse}
-use Rattle.lie_datum.specs.RootDatum.{simple, IsSimpleIndex, is_simple}
+use Rattle.lie_datum.specs.RootDatum.{simple, is_simple}
 use Rattle.lie_datum.specs.RootList.{Roots, IsLoaded}
 use Rattle.lie_datum.proofs.LoadedLaws.{not_both}
 use Rattle.lie_weyl.specs.WeylElement.{moved, SameProduct}
@@ -18,13 +18,17 @@ module _ (d : Roots) (loaded : IsLoaded d) where
       let v = reverse w in
       let k = IsWord-reverse d.base w h in
       let rest = greedy_descents (i ∷ w) p (letter f.index h) e in
-      let turned = reverse-cons i w in
-      ((record {
-        index = f.index;
-        down = λ q. not_both d loaded (moved d.base v (simple i)) (IsRoot-moved d loaded v (simple i) k (is_simple i f.index)) f.down q;
-        before = f.before;
-      }, subst (λ z. AreDescents d z p) turned rest.0),
-        (λ r m. ap (λ z. moved d.base z r) (sym (append_assoc v (i ∷ []) p) ∙ ap (λ z. z ++ p) (sym turned)) ∙ rest.1 r m))
+      let turned = reverse-cons i w in (
+        (
+          record {
+            index = f.index;
+            down = λ q. not_both d loaded (moved d.base v (simple i)) (IsRoot-moved d loaded v (simple i) k (is_simple i f.index)) f.down q;
+            before = f.before;
+          },
+          subst (λ z. AreDescents d z p) turned rest.0,
+        ),
+        (λ r m. ap (λ z. moved d.base z r) (sym (append_assoc v (i ∷ []) p) ∙ ap (λ z. z ++ p) (sym turned)) ∙ rest.1 r m),
+      )
 
   pub greedy_least : (w p : List ℕ) → IsWord d.base w → IsGreedyWord d w p → IsLeastOf d w p
   greedy_least w p h e =

@@ -5,9 +5,7 @@ ghost use Rattle.std.specs.List.{All};
 ghost use Rattle.lie_datum.specs.RootList.{IsNumber};
 ghost use Rattle.lie_weyl.specs.WeylElement.{AreLetters, IsElement};
 
-use crate::{
-    Weyl, exchange, greedy_is_least, inverse_lengths, one_factor_more, shortest_words,
-};
+use crate::{Weyl, exchange, greedy_is_least, inverse_lengths, one_factor_more, shortest_words};
 use lie_datum::{Datum, RootId, Vector};
 use std::alloc::Global;
 use std::process::Abort;
@@ -16,7 +14,13 @@ use std::process::Abort;
 const A_3: [[i128; 3]; 3] = [[2, -1, 0], [-1, 2, -1], [0, -1, 2]];
 
 /// A_5 in the numbering of Bourbaki: the chain.
-const A_5: [[i128; 5]; 5] = [[2, -1, 0, 0, 0], [-1, 2, -1, 0, 0], [0, -1, 2, -1, 0], [0, 0, -1, 2, -1], [0, 0, 0, -1, 2]];
+const A_5: [[i128; 5]; 5] = [
+    [2, -1, 0, 0, 0],
+    [-1, 2, -1, 0, 0],
+    [0, -1, 2, -1, 0],
+    [0, 0, -1, 2, -1],
+    [0, 0, 0, -1, 2],
+];
 
 /// B_3 in the numbering of Bourbaki: the last root is short.
 const B_3: [[i128; 3]; 3] = [[2, -1, 0], [-1, 2, -2], [0, -1, 2]];
@@ -34,13 +38,37 @@ const F_4: [[i128; 4]; 4] = [[2, -1, 0, 0], [-1, 2, -2, 0], [0, -1, 2, -1], [0, 
 const G_2: [[i128; 2]; 2] = [[2, -1], [-3, 2]];
 
 /// E_6 in the numbering of Bourbaki: the fourth root has three neighbours.
-const E_6: [[i128; 6]; 6] = [[2, 0, -1, 0, 0, 0], [0, 2, 0, -1, 0, 0], [-1, 0, 2, -1, 0, 0], [0, -1, -1, 2, -1, 0], [0, 0, 0, -1, 2, -1], [0, 0, 0, 0, -1, 2]];
+const E_6: [[i128; 6]; 6] = [
+    [2, 0, -1, 0, 0, 0],
+    [0, 2, 0, -1, 0, 0],
+    [-1, 0, 2, -1, 0, 0],
+    [0, -1, -1, 2, -1, 0],
+    [0, 0, 0, -1, 2, -1],
+    [0, 0, 0, 0, -1, 2],
+];
 
 /// E_7 in the numbering of Bourbaki: the fourth root has three neighbours.
-const E_7: [[i128; 7]; 7] = [[2, 0, -1, 0, 0, 0, 0], [0, 2, 0, -1, 0, 0, 0], [-1, 0, 2, -1, 0, 0, 0], [0, -1, -1, 2, -1, 0, 0], [0, 0, 0, -1, 2, -1, 0], [0, 0, 0, 0, -1, 2, -1], [0, 0, 0, 0, 0, -1, 2]];
+const E_7: [[i128; 7]; 7] = [
+    [2, 0, -1, 0, 0, 0, 0],
+    [0, 2, 0, -1, 0, 0, 0],
+    [-1, 0, 2, -1, 0, 0, 0],
+    [0, -1, -1, 2, -1, 0, 0],
+    [0, 0, 0, -1, 2, -1, 0],
+    [0, 0, 0, 0, -1, 2, -1],
+    [0, 0, 0, 0, 0, -1, 2],
+];
 
 /// E_8 in the numbering of Bourbaki: the fourth root has three neighbours.
-const E_8: [[i128; 8]; 8] = [[2, 0, -1, 0, 0, 0, 0, 0], [0, 2, 0, -1, 0, 0, 0, 0], [-1, 0, 2, -1, 0, 0, 0, 0], [0, -1, -1, 2, -1, 0, 0, 0], [0, 0, 0, -1, 2, -1, 0, 0], [0, 0, 0, 0, -1, 2, -1, 0], [0, 0, 0, 0, 0, -1, 2, -1], [0, 0, 0, 0, 0, 0, -1, 2]];
+const E_8: [[i128; 8]; 8] = [
+    [2, 0, -1, 0, 0, 0, 0, 0],
+    [0, 2, 0, -1, 0, 0, 0, 0],
+    [-1, 0, 2, -1, 0, 0, 0, 0],
+    [0, -1, -1, 2, -1, 0, 0, 0],
+    [0, 0, 0, -1, 2, -1, 0, 0],
+    [0, 0, 0, 0, -1, 2, -1, 0],
+    [0, 0, 0, 0, 0, -1, 2, -1],
+    [0, 0, 0, 0, 0, 0, -1, 2],
+];
 
 /// A word and the least word of its product, letter by letter.
 type Words<'a> = &'a [(&'a [u8], &'a [u8])];
@@ -202,7 +230,13 @@ fn least_words_of_e8(rt: HostRuntime) {
     ];
     least_words(&rt, rt.alloc(), &datum, words);
     // the images of the simple roots under the longest element, and the number of positive roots
-    longest(&rt, rt.alloc(), &datum, &[-1, -2, -3, -4, -5, -6, -7, -8], 120);
+    longest(
+        &rt,
+        rt.alloc(),
+        &datum,
+        &[-1, -2, -3, -4, -5, -6, -7, -8],
+        120,
+    );
 }
 
 /// Compares the least words and lengths of the products of the words.
@@ -224,7 +258,11 @@ fn longest(rt: &impl Abort, alloc: Global, datum: &Datum, images: &[i32], length
 
 /// The letters of a word whose digits are their numbers.
 fn letters(rt: &impl Abort, alloc: Global, digits: &[u8]) -> Vec<u8> {
-    digits.iter().map(|d| *d & 15).collect(alloc).expect(rt, "memory")
+    digits
+        .iter()
+        .map(|d| *d & 15)
+        .collect(alloc)
+        .expect(rt, "memory")
 }
 
 /// Whether each letter is the number of a simple root.
@@ -323,8 +361,22 @@ fn calls_on_a2(rt: HostRuntime) {
     is(&rt, alloc, &datum, &w, b"12", (2, -3));
     assert!(rt; from_images(&rt, alloc, &datum, &[1, 1]).is_none());
     is(&rt, alloc, &datum, &w.inverse(&datum), b"21", (-3, 1));
-    is(&rt, alloc, &datum, &w.times_simple(&datum, 1), b"121", (-2, -1));
-    is(&rt, alloc, &datum, &w.simple_times(&datum, 1), b"2", (3, -2));
+    is(
+        &rt,
+        alloc,
+        &datum,
+        &w.times_simple(&datum, 1),
+        b"121",
+        (-2, -1),
+    );
+    is(
+        &rt,
+        alloc,
+        &datum,
+        &w.simple_times(&datum, 1),
+        b"2",
+        (3, -2),
+    );
     is(&rt, alloc, &datum, &w.mul(&datum, &w), b"21", (-3, 1));
     let one = Weyl::identity(&datum);
     is(&rt, alloc, &datum, &one, b"", (1, 2));

@@ -1,4 +1,4 @@
-use Rattle.std.proofs.Common.{◌≡◌, ℕ, ◌+◌, List, [], ◌∷◌, ◌++◌, length, sym, ap, subst, ◌∙◌, arith}
+use Rattle.std.proofs.Common.{◌+◌, [], ◌∷◌, ◌++◌, length, sym, ap, subst, ◌∙◌, arith}
 use Rattle.std.proofs.lemmas.List.{append-nil}
 use Rattle.lie_weyl.specs.WeylElement.{AreLetters}
 use Rattle.lie_weyl.specs.Descents.{AreHeights}
@@ -11,11 +11,12 @@ use Rattle.lie_weyl.proofs.descents.descents.Goals as goal
 pub loop-init : goal.loop-init
 loop-init c =
     let d = c.args.datum.now in
-    let e = c.new-word.ensures in
-    (ap length e,
+    let e = c.new-word.ensures in (
+      ap length e,
       subst (AreLetters d.base) (sym e) (are_letters d.base [] empty),
       c.requires,
-      (λ w l at. (subst (AreDescents d w) (sym e) tt, subst (λ v. AreHeights d v c.args.heights.now) (sym (ap (λ v. w ++ v) e ∙ append-nil w)) at)))
+      (λ w l at. (subst (AreDescents d w) (sym e) tt, subst (λ v. AreHeights d v c.args.heights.now) (sym (ap (λ v. w ++ v) e ∙ append-nil w)) at)),
+    )
 
 pub returns-in-None-clause-least : goal.returns-in-None-clause-least
 returns-in-None-clause-least c = λ w l at.
@@ -39,12 +40,13 @@ loop-preserved c =
     let n = c.loop.invariant.0 in
     let m = c.push.ensures.len in
     let f = c.in-Some.ensures in
-    let s = negative_index d c.loaded.ensures c.loop.left k c.loop.invariant.2 f.2 in
-    (omega (arith, n, m),
+    let s = negative_index d c.loaded.ensures c.loop.left k c.loop.invariant.2 f.2 in (
+      omega (arith, n, m),
       subst (AreLetters d.base) (sym e) (are_letters d.base (word ++ (k + 1) ∷ []) (IsWord-append d.base word ((k + 1) ∷ []) (is_word d.base word c.loop.invariant.1) (one_letter d.base (k + 1) s))),
       c.turned-left.ensures.rest c.loop.invariant.2,
       (λ w l at. (let run = c.loop.invariant.3 w l at in subst (λ p. AreDescents d w p × AreHeights d (w ++ p) c.turned-left.result) (sym e)
-          (run_more d c.loaded.ensures w (is_word d.base w l) word c.loop.left c.turned-left.result k run.0 run.1 c.loop.invariant.2 f.2 c.turned-left.ensures.turned))))
+          (run_more d c.loaded.ensures w (is_word d.base w l) word c.loop.left c.turned-left.result k run.0 run.1 c.loop.invariant.2 f.2 c.turned-left.ensures.turned))),
+    )
 
 pub returns-clause-least : goal.returns-clause-least
 returns-clause-least c = λ w l at.

@@ -1,7 +1,7 @@
-use Rattle.std.proofs.Common.{◌≡◌, ℕ, suc, ◌+◌, ◌-◌, ◌<◌, ◌≤◌, ℤ, pos, ◌+ℤ◌, ◌-ℤ◌, ◌*ℤ◌, unsigned_abs, length, get_or, set, sym, ap, subst, ◌∙◌, arith}
+use Rattle.std.proofs.Common.{◌≡◌, suc, ◌+◌, ◌-◌, ◌≤◌, pos, ◌+ℤ◌, ◌-ℤ◌, ◌*ℤ◌, unsigned_abs, sym, ap, subst, ◌∙◌, arith}
 use Rattle.lie_datum.specs.Vectors.{entry}
 use Rattle.lie_datum.specs.RootDatum.{simple, reflected, is_simple, is_reflected, IsSimpleIndex}
-use Rattle.lie_datum.specs.RootList.{height, root_of}
+use Rattle.lie_datum.specs.RootList.{height}
 use Rattle.lie_datum.proofs.VectorLemmas.{entry_within}
 use Rattle.lie_weyl.proofs.HeightSigns.{height_within}
 use Rattle.lie_weyl.proofs.HeightSums.{plain_small, product_fits, sum_fits, sum_is}
@@ -60,11 +60,12 @@ loop-k-preserved c =
     let places = c.loop-k.invariant.0 in
     let e : k + 1 ≡ suc k = omega arith in
     let value = sum_is c.from.result (entry c.args.heights.now (i - 1)) (entry c.loop-k.turned k) f q old
-        ∙ ap (λ z. z +ℤ (c.from.result -ℤ pos 1) *ℤ entry c.args.heights.now (i - 1)) same
-        ∙ ap (λ z. entry c.args.heights.now k +ℤ (z -ℤ pos 1) *ℤ entry c.args.heights.now (i - 1)) (from ∙ is ∙ ap (λ n. height (reflected d.base i (simple n))) e) in
-    (length-set c.loop-k.turned k _ ∙ places,
+    ∙ ap (λ z. z +ℤ (c.from.result -ℤ pos 1) *ℤ entry c.args.heights.now (i - 1)) same
+    ∙ ap (λ z. entry c.args.heights.now k +ℤ (z -ℤ pos 1) *ℤ entry c.args.heights.now (i - 1)) (from ∙ is ∙ ap (λ n. height (reflected d.base i (simple n))) e) in (
+      length-set c.loop-k.turned k _ ∙ places,
       below_more (λ z j. z ≡ entry c.args.heights.now j +ℤ (height (reflected d.base i (simple (suc j))) -ℤ pos 1) *ℤ entry c.args.heights.now (i - 1)) c.loop-k.turned _ k (pos 0) (omega (arith, places)) c.loop-k.invariant.1 value,
-      behind_more c.loop-k.turned c.args.heights.now _ k (pos 0) c.loop-k.invariant.2)
+      behind_more c.loop-k.turned c.args.heights.now _ k (pos 0) c.loop-k.invariant.2,
+    )
 
 pub returns-clause-turned : goal.returns-clause-turned
 returns-clause-turned c = λ j s.

@@ -1,4 +1,4 @@
-use Rattle.std.proofs.Common.{◌≡◌, ℕ, ℤ, List, reverse, subst, sym, ap, ◌∙◌}
+use Rattle.std.proofs.Common.{reverse, subst, sym, ap, ◌∙◌}
 use Rattle.std.proofs.lemmas.List.{reverse-reverse}
 use Rattle.std.specs.Cmp.Rules.{signed_items}
 use Rattle.lie_weyl.specs.WeylElement.{Spells}
@@ -9,9 +9,10 @@ use Rattle.lie_weyl.proofs.weyl.Weyl.from_images.Goals as goal
 
 pub returns-then-eq : goal.returns-then-eq
 returns-then-eq c =
-    let d = c.args.datum.now in
-    (sym c.images.ensures ∙ (signed_items c.images.result.now c.args.images.now).0 (sym c.eq.ensures ∙ c.if-eq.true),
-      (reverse c.deref.result.now, c.inverse-w.ensures.word c.deref.result.now c.from_word.ensures))
+    let d = c.args.datum.now in (
+      sym c.images.ensures ∙ (signed_items c.images.result.now c.args.images.now).0 (sym c.eq.ensures ∙ c.if-eq.true),
+      (reverse c.deref.result.now, c.inverse-w.ensures.word c.deref.result.now c.from_word.ensures),
+    )
 
 pub returns-else-eq : goal.returns-else-eq
 returns-else-eq c = λ e.
