@@ -1,18 +1,16 @@
 -- Words of least descents: they end at 1, and reversed elements have them as least words.
-use Rattle.std.proofs.Common.{◌≡◌, ◌≢◌, ℕ, zero, suc, ◌+◌, ◌-◌, ◌<◌, ◌≤◌, List, [], ◌∷◌, ◌++◌, length, reverse, refl, sym, ap, subst, ◌∙◌, arith, ◌⊎◌, inl, inr, ⊎_elim, length-append}
+use Rattle.std.proofs.Common.{◌≡◌, ◌≢◌, ℕ, zero, suc, ◌+◌, ◌<◌, List, [], ◌∷◌, ◌++◌, length, reverse, refl, sym, ap, subst, ◌∙◌, arith, ◌⊎◌, inl, inr, ⊎_elim}
 use Rattle.std.proofs.lemmas.List.{append_assoc, append-nil, reverse-reverse, length-reverse}
 use Rattle.std.specs.Ordering.{nat_cmp, ordering_then}
 use Rattle.std.specs.Cmp.{nat_cmp_is}
 use Rattle.std.specs.Cmp.Lexicographic.{slice_cmp}
-use Rattle.std.specs.declared.cmp.Ordering.{Ordering}
 use Rattle.std.specs.declared.cmp.Ordering.TheVariants.{Less, Equal, Greater}
-use Rattle.lie_datum.specs.declared.root_pair.Root.{Root}
-use Rattle.lie_datum.specs.RootDatum.{simple, reflected, IsSimpleIndex, IsRoot, is_simple, is_reflected, IsPositive}
+use Rattle.lie_datum.specs.RootDatum.{simple, reflected, IsSimpleIndex, is_reflected, IsPositive}
 use Rattle.lie_datum.specs.RootList.{Roots, IsLoaded}
 use Rattle.lie_weyl.specs.WeylElement.{moved, SameProduct, word_length}
 use Rattle.lie_weyl.specs.Descents.{IsLeastOf}
-use Rattle.lie_weyl.proofs.Words.{IsWord, empty, letter, is_word, are_letters, IsWord-append, one_letter, IsWord-reverse, reverse-cons, IsRoot-moved, moved-append, reverse_moved, moved_reverse, reverse_same, twice}
-use Rattle.lie_weyl.proofs.LengthLemmas.{length_same, longer, shorter, sign_dec, length_le, length_reverse, reduced}
+use Rattle.lie_weyl.proofs.Words.{IsWord, empty, letter, is_word, are_letters, IsWord-append, one_letter, IsWord-reverse, reverse-cons, IsRoot-moved, moved-append, reverse_moved, reverse_same, twice}
+use Rattle.lie_weyl.proofs.LengthLemmas.{length_same, longer, shorter, length_le, length_reverse}
 
 -- i is the least simple index whose root the word makes negative
 pub record IsLeastDescent (d : Roots) (w : List ℕ) (i : ℕ) : Type 0 where

@@ -1,8 +1,8 @@
 -- What the loop that writes the word of descents keeps, and how it ends.
-use Rattle.std.proofs.Common.{◌≡◌, ℕ, suc, ◌+◌, ◌-◌, ◌<◌, ◌≤◌, ℤ, pos, ◌≤ℤ◌, List, [], ◌∷◌, ◌++◌, length, reverse, refl, sym, ap, subst, ◌∙◌, arith, ◌⊎◌, inl, inr, ⊎_elim}
+use Rattle.std.proofs.Common.{◌≡◌, ℕ, ◌+◌, ◌≤◌, pos, ◌≤ℤ◌, List, [], ◌∷◌, ◌++◌, length, reverse, subst, ◌∙◌, arith, ⊎_elim}
 use Rattle.std.proofs.lemmas.List.{append_assoc}
 use Rattle.lie_datum.specs.Vectors.{Vector, entry}
-use Rattle.lie_datum.specs.RootDatum.{IsSimpleIndex, IsWithin}
+use Rattle.lie_datum.specs.RootDatum.{IsWithin}
 use Rattle.lie_datum.specs.RootList.{Roots, IsLoaded}
 use Rattle.lie_weyl.specs.WeylElement.{word_length}
 use Rattle.lie_weyl.specs.Descents.{AreHeights, EndsAtRank, AreTurned, IsFirstNegative, IsLeastOf}

@@ -1,13 +1,11 @@
 -- Elements and their words: another word of the same product spells the same element.
-use Rattle.std.proofs.Common.{◌≡◌, ℕ, zero, suc, ◌+◌, ◌-◌, ◌<◌, ◌≤◌, ℤ, pos, List, [], ◌∷◌, length, get_or, reverse, refl, sym, ap, subst, ◌∙◌, arith, ◌⊎◌, inl, inr, ⊎_elim}
+use Rattle.std.proofs.Common.{◌≡◌, ℕ, zero, suc, ◌-◌, ◌<◌, ℤ, pos, List, [], ◌∷◌, length, get_or, reverse, refl, sym, ap, ◌∙◌, arith}
 use Rattle.std.proofs.lemmas.List.{reverse-reverse, length-reverse}
-use Rattle.std.specs.List.{All}
 use Rattle.lie_datum.specs.Vectors.{Vector, entry}
-use Rattle.lie_datum.specs.RootDatum.{rank, simple, IsSimpleIndex, is_simple}
-use Rattle.lie_datum.specs.RootList.{Roots, IsLoaded, IsNumber, root_of, height}
-use Rattle.lie_datum.proofs.Entries.{within_or_past}
+use Rattle.lie_datum.specs.RootDatum.{simple, IsSimpleIndex, is_simple}
+use Rattle.lie_datum.specs.RootList.{Roots, IsLoaded, root_of, height}
 use Rattle.lie_datum.proofs.SignedRoots.{same_number}
-use Rattle.lie_weyl.specs.WeylElement.{moved, AreLetters, Spells, SameProduct, IsElement, IsLength, IsLeastWord, word_length}
+use Rattle.lie_weyl.specs.WeylElement.{moved, AreLetters, Spells, SameProduct, IsLength, IsLeastWord}
 use Rattle.lie_weyl.specs.Descents.{IsLeastOf, AreHeights}
 use Rattle.lie_weyl.proofs.Words.{is_word, are_letters, IsWord-reverse, reverse_same}
 use Rattle.lie_weyl.proofs.Linearity.{spelled_same}

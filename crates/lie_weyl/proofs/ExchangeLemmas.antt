@@ -1,13 +1,13 @@
 -- The exchange condition: a word that makes a simple root negative loses one letter by that reflection.
-use Rattle.std.proofs.Common.{◌≡◌, ℕ, zero, suc, ◌+◌, ◌<◌, ◌≤◌, List, [], ◌∷◌, ◌++◌, length, refl, sym, ap, subst, ◌∙◌, arith, ◌⊎◌, inl, inr, ⊎_elim, length-append}
+use Rattle.std.proofs.Common.{◌≡◌, ℕ, zero, suc, List, [], ◌∷◌, ◌++◌, length, refl, sym, ap, ◌∙◌, arith, ◌⊎◌, inl, inr, ⊎_elim, length-append}
 use Rattle.lie_datum.specs.declared.root_pair.Root.{Root}
-use Rattle.lie_datum.specs.RootDatum.{Base, simple, reflected, IsSimpleIndex, IsRoot, is_simple, is_reflected, IsPositive}
+use Rattle.lie_datum.specs.RootDatum.{simple, reflected, IsSimpleIndex, IsRoot, is_simple, is_reflected, IsPositive}
 use Rattle.lie_datum.specs.RootList.{Roots, IsLoaded}
 use Rattle.lie_datum.specs.Laws.{reflected_in}
 use Rattle.lie_datum.proofs.Turns.{turn_moves, reflected_in_simple}
 use Rattle.lie_datum.proofs.LoadedLaws.{short, simple_or, positive_dec}
 use Rattle.lie_weyl.specs.WeylElement.{moved, SameProduct}
-use Rattle.lie_weyl.proofs.Words.{IsWord, empty, letter, IsWord-append, IsRoot-moved, lengths, moved-append, twice}
+use Rattle.lie_weyl.proofs.Words.{IsWord, letter, IsRoot-moved, lengths, moved-append, twice}
 use Rattle.lie_weyl.proofs.Signs.{simple_up}
 
 module _ (d : Roots) (loaded : IsLoaded d) where

@@ -1,7 +1,7 @@
 -- The greedy word of an element is the word of least descents of its inverse.
-use Rattle.std.proofs.Common.{◌≡◌, ℕ, List, [], ◌∷◌, ◌++◌, reverse, refl, sym, ap, subst, ◌∙◌}
+use Rattle.std.proofs.Common.{ℕ, List, [], ◌∷◌, ◌++◌, reverse, sym, ap, subst, ◌∙◌}
 use Rattle.std.proofs.lemmas.List.{append_assoc, append-nil, reverse-reverse}
-use Rattle.lie_datum.specs.RootDatum.{simple, IsSimpleIndex, is_simple}
+use Rattle.lie_datum.specs.RootDatum.{simple, is_simple}
 use Rattle.lie_datum.specs.RootList.{Roots, IsLoaded}
 use Rattle.lie_datum.proofs.LoadedLaws.{not_both}
 use Rattle.lie_weyl.specs.WeylElement.{moved, SameProduct}

@@ -1,14 +1,13 @@
 -- Heights of roots tell their signs, and those of the images of the simple roots follow a simple reflection.
-use Rattle.std.proofs.Common.{◌≡◌, ℕ, zero, suc, ◌+◌, ◌-◌, ◌*◌, ◌<◌, ◌≤◌, ℤ, pos, negsuc, neg_ℤ, ◌+ℤ◌, ◌-ℤ◌, ◌*ℤ◌, ◌≤ℤ◌, ◌<ℤ◌, List, [], ◌∷◌, ◌++◌, length, get_or, unsigned_abs, refl, sym, ap, subst, ◌∙◌, arith, ◌⊎◌, inl, inr, ⊎_elim}
-use Rattle.std.proofs.lemmas.Int.{ints, by_lt_z}
-use Rattle.std.specs.List.{All}
+use Rattle.std.proofs.Common.{◌≡◌, ℕ, zero, suc, ◌+◌, ◌-◌, ◌*◌, ◌≤◌, ℤ, pos, negsuc, ◌+ℤ◌, ◌-ℤ◌, ◌*ℤ◌, ◌≤ℤ◌, ◌<ℤ◌, List, [], ◌∷◌, ◌++◌, length, unsigned_abs, refl, sym, ap, subst, ◌∙◌, arith, ⊎_elim}
+use Rattle.std.proofs.lemmas.Int.{ints}
 use Rattle.std.proofs.lemmas.List.{get_or_default}
 use Rattle.lie_datum.specs.declared.root_pair.Root.{Root}
-use Rattle.lie_datum.specs.Vectors.{Vector, plus, times, minus, unit, entry, total}
-use Rattle.lie_datum.specs.RootDatum.{rank, simple, reflected, opposite, IsSimpleIndex, IsRoot, is_simple, is_reflected, IsPositive, IsWithin}
+use Rattle.lie_datum.specs.Vectors.{Vector, times, entry, total}
+use Rattle.lie_datum.specs.RootDatum.{rank, simple, reflected, opposite, IsSimpleIndex, IsRoot, is_simple, IsPositive, IsWithin}
 use Rattle.lie_datum.specs.RootList.{Roots, IsLoaded, height}
 use Rattle.lie_base.proofs.Whole.{mul-add, mul-one}
-use Rattle.lie_base.proofs.RingSolver.{ring, var, num, neg, ◌⊕◌, ◌⊗◌}
+use Rattle.lie_base.proofs.RingSolver.{ring, var, num, ◌⊗◌}
 use Rattle.lie_datum.proofs.Entries.{within_or_past}
 use Rattle.lie_datum.proofs.LoadedLaws.{short, opposite_root, opposite_positive, positive_dec}
 use Rattle.lie_datum.proofs.HeightLemmas.{height_positive, total-plus}

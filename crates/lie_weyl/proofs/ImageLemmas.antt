@@ -1,24 +1,24 @@
 -- The images of the simple roots: what makes a list of numbers the images of a word.
-use Rattle.std.proofs.Common.{◌≡◌, ℕ, zero, suc, ◌-◌, ◌+◌, ◌+ℤ◌, map, ◌<◌, ◌≤◌, ℤ, pos, List, [], ◌∷◌, ◌++◌, length, get_or, take, set, refl, sym, ap, subst, ◌∙◌, arith, length-take, get_or-take, Option, Some, None, ◌⊎◌, inl, inr, ⊎_elim}
+use Rattle.std.proofs.Common.{◌≡◌, ℕ, zero, suc, ◌-◌, ◌+◌, ◌+ℤ◌, map, ◌<◌, ◌≤◌, ℤ, pos, List, [], length, get_or, take, set, refl, sym, ap, subst, ◌∙◌, arith, length-take, get_or-take, Option, Some, None, ⊎_elim}
 use Rattle.std.proofs.lemmas.List.{get_or_default, get_or-set_same, get_or-set_other}
 use Rattle.std.specs.List.{All}
 use Rattle.std.proofs.Math.ListN.{length-set, length-map, get_or-map}
 use Rattle.std.specs.Option.{IsSome, unwrap_or}
 use Rattle.std.proofs.lemmas.List.Elements.{All-from_get_or, All-set}
 use Rattle.lie_datum.specs.declared.root_pair.Root.{Root}
-use Rattle.lie_datum.specs.Vectors.{Vector, unit, entry, times, plus, combination}
-use Rattle.lie_datum.specs.RootDatum.{simple, reflected, IsSimpleIndex, IsRoot, is_simple, rank, IsWithin}
+use Rattle.lie_datum.specs.Vectors.{Vector, entry, times, combination}
+use Rattle.lie_datum.specs.RootDatum.{simple, IsSimpleIndex, IsRoot, rank, IsWithin}
 use Rattle.lie_datum.specs.Numbers.{number_at}
 use Rattle.lie_datum.specs.Laws.{SimplesFirst}
 use Rattle.lie_datum.proofs.NumberLemmas.{within, numbered_at, root_at}
 use Rattle.lie_datum.specs.RootList.{Roots, IsLoaded, IsNumber, root_of, NamesRoot}
-use Rattle.lie_datum.proofs.SignedRoots.{root_is, same_coeffs, same_number}
+use Rattle.lie_datum.proofs.SignedRoots.{root_is, same_coeffs}
 use Rattle.lie_weyl.specs.Padding.{IsPadded}
 use Rattle.lie_weyl.specs.WeylElement.{moved, Spells, AreLetters}
 use Rattle.lie_datum.proofs.Entries.{within_or_past, entry-plus, entry-times, same_entries}
 use Rattle.lie_datum.proofs.VectorLemmas.{entry-combination, length-combination}
 use Rattle.lie_datum.proofs.LoadedLaws.{short}
-use Rattle.lie_weyl.proofs.Words.{IsWord, is_word, lengths, IsRoot-moved}
+use Rattle.lie_weyl.proofs.Words.{IsWord, lengths, IsRoot-moved}
 use Rattle.lie_weyl.proofs.Linearity.{linear_image}
 
 -- ---- what a look-up by coefficients answers

@@ -1,5 +1,5 @@
 -- Lengths of products of simple reflections: one letter more changes them by one, and every product has a word of its length.
-use Rattle.std.proofs.Common.{◌≡◌, ℕ, zero, suc, ◌+◌, ◌-◌, ◌<◌, ◌≤◌, ℤ, pos, ◌+ℤ◌, List, [], ◌∷◌, ◌++◌, length, reverse, Bool, true, false, cond, refl, sym, ap, subst, ◌∙◌, arith, ◌⊎◌, inl, inr, ⊎_elim, length-append}
+use Rattle.std.proofs.Common.{◌≡◌, ℕ, zero, suc, ◌+◌, ◌≤◌, ℤ, pos, ◌+ℤ◌, List, [], ◌∷◌, ◌++◌, length, reverse, Bool, true, false, cond, refl, sym, ap, subst, ◌∙◌, arith, ◌⊎◌, inl, inr, ⊎_elim, length-append}
 use Rattle.std.proofs.lemmas.Int.{ints}
 use Rattle.std.proofs.lemmas.List.{length-reverse, reverse-reverse}
 use Rattle.std.specs.List.{count_by}
@@ -8,11 +8,10 @@ use Rattle.lie_datum.specs.declared.root_pair.Root.{Root}
 use Rattle.lie_datum.specs.Vectors.{total}
 use Rattle.lie_datum.specs.RootDatum.{rank, simple, reflected, IsSimpleIndex, IsRoot, is_simple, is_reflected, IsPositive}
 use Rattle.lie_datum.specs.RootList.{Roots, IsLoaded}
-use Rattle.lie_base.proofs.Members.{In, here, there, IsSimpleList, without, total-without, in_without, from_without, IsSimpleList-without, total_permuted}
+use Rattle.lie_base.proofs.Members.{In, here, there, without, total-without, in_without, from_without, IsSimpleList-without, total_permuted}
 use Rattle.lie_datum.proofs.LoadedLaws.{positive_in, positive_only, stays, sorted_simple, positive_dec}
 use Rattle.lie_weyl.specs.WeylElement.{moved, SameProduct, is_negative, word_length}
-use Rattle.lie_weyl.proofs.Words.{IsWord, empty, letter, IsWord-append, one_letter, IsWord-reverse, reverse-cons, IsRoot-moved, moved-append, reverse_moved, moved_reverse, reverse_same, twice}
-use Rattle.lie_weyl.proofs.Linearity.{moved_same}
+use Rattle.lie_weyl.proofs.Words.{IsWord, empty, letter, IsWord-append, one_letter, IsWord-reverse, reverse-cons, IsRoot-moved, moved-append, reverse_same, twice}
 use Rattle.lie_weyl.proofs.Signs.{positive_test, negative_test, turned_negative, turned_positive, simple_up}
 use Rattle.lie_weyl.proofs.ExchangeLemmas.{exchange, exchanged_length, exchanged_same}
 

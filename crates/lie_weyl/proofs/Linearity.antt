@@ -1,20 +1,19 @@
 -- A word acts linearly, so what it does to the simple roots says what it does to all.
-use Rattle.std.proofs.Common.{◌≡◌, ℕ, zero, suc, ◌-◌, ◌<◌, ◌≤◌, ℤ, pos, negsuc, neg_ℤ, ◌+ℤ◌, ◌*ℤ◌, List, [], ◌∷◌, length, get_or, refl, sym, ap, subst, ◌∙◌, arith}
-use Rattle.std.proofs.lemmas.Int.{ints}
+use Rattle.std.proofs.Common.{◌≡◌, ℕ, zero, suc, ◌-◌, ◌≤◌, ℤ, pos, negsuc, neg_ℤ, ◌+ℤ◌, ◌*ℤ◌, List, [], ◌∷◌, length, get_or, refl, sym, ap, ◌∙◌, arith}
 use Rattle.lie_datum.specs.declared.root_pair.Root.{Root}
 use Rattle.lie_datum.specs.Vectors.{Vector, pairing, plus, times, unit, entry}
 use Rattle.lie_datum.specs.RootDatum.{Base, rank, vector, simple_coroot, simple, reflected, IsSimpleIndex, IsRoot, is_simple, is_reflected}
-use Rattle.lie_datum.specs.RootList.{Roots, IsLoaded, root_of}
+use Rattle.lie_datum.specs.RootList.{Roots, IsLoaded}
 use Rattle.lie_base.proofs.RingSolver.{ring, var, num, neg, ◌⊕◌, ◌⊗◌}
 use Rattle.lie_datum.proofs.Entries.{entry-plus, entry-times, length-plus, length-times, length-unit, same_entries}
-use Rattle.lie_datum.proofs.Roots.{HasLengths, HasLengths-reflected, entry-moved, length-moved, simple_vector}
+use Rattle.lie_datum.proofs.Roots.{HasLengths, entry-moved, length-moved, simple_vector}
 use Rattle.lie_datum.proofs.Reflections.{pairing-unit}
 use Rattle.lie_datum.proofs.Linear.{pairing-plus, pairing-times}
 use Rattle.lie_datum.proofs.Turns.{pairing-combination-plus}
 use Rattle.lie_datum.proofs.SignedRoots.{same_coeffs}
 use Rattle.lie_datum.proofs.LoadedLaws.{short}
 use Rattle.lie_weyl.specs.WeylElement.{moved, Spells, SameProduct}
-use Rattle.lie_weyl.proofs.Words.{IsWord, empty, letter, is_word, IsRoot-moved, lengths}
+use Rattle.lie_weyl.proofs.Words.{IsWord, letter, is_word, IsRoot-moved, lengths}
 
 -- the coefficients of x are those of y and k times those of z
 abbrev pub IsShift : Root → Root → Root → ℤ → Type 0

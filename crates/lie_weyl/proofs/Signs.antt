@@ -1,15 +1,15 @@
 -- The sign of a root by its test, and of the images of a simple root and its opposite.
-use Rattle.std.proofs.Common.{◌≡◌, ℕ, zero, suc, ◌<◌, ◌≤◌, ℤ, pos, neg_ℤ, ◌≤ℤ◌, ◌<ℤ◌, List, [], ◌∷◌, length, get_or, Bool, true, false, ◌||◌, refl, sym, ap, subst, ◌∙◌, arith, ◌⊎◌, inl, inr, ⊎_elim}
-use Rattle.std.proofs.lemmas.Int.{ints, by_lt_z}
+use Rattle.std.proofs.Common.{◌≡◌, ℕ, zero, suc, ◌<◌, pos, ◌≤ℤ◌, ◌<ℤ◌, List, [], ◌∷◌, length, Bool, true, false, ◌||◌, refl, subst, arith, ◌⊎◌, inl, inr, ⊎_elim}
+use Rattle.std.proofs.lemmas.Int.{ints}
 use Rattle.std.proofs.lemmas.Bool.{false≢true, true≢false}
 use Rattle.std.proofs.lemmas.List.{get_or_default}
 use Rattle.std.specs.Int.RustNames.{int_lt}
-use Rattle.std.specs.List.{All, list_any}
+use Rattle.std.specs.List.{list_any}
 use Rattle.lie_datum.specs.declared.root_pair.Root.{Root}
 use Rattle.lie_datum.specs.Vectors.{Vector, entry}
-use Rattle.lie_datum.specs.RootDatum.{simple, reflected, IsSimpleIndex, IsRoot, IsPositive, IsNegative, is_simple, is_reflected}
+use Rattle.lie_datum.specs.RootDatum.{simple, reflected, IsSimpleIndex, IsRoot, IsPositive, IsNegative, is_simple}
 use Rattle.lie_datum.specs.RootList.{Roots, IsLoaded}
-use Rattle.lie_datum.proofs.LoadedLaws.{positive_or, not_both, positive_dec, simple_is_positive, at_entry}
+use Rattle.lie_datum.proofs.LoadedLaws.{positive_or, not_both, simple_is_positive, at_entry}
 use Rattle.lie_weyl.specs.WeylElement.{moved, is_negative}
 use Rattle.lie_weyl.proofs.Words.{IsWord, IsRoot-moved}
 use Rattle.lie_weyl.proofs.Linearity.{turned_entry}

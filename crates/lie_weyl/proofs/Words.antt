@@ -1,10 +1,8 @@
 -- Words of simple reflections: joined, reversed, and what they do to roots.
-use Rattle.std.proofs.Common.{◌≡◌, ℕ, zero, suc, ◌<◌, List, [], ◌∷◌, ◌++◌, length, reverse, refl, sym, ap, subst, ◌∙◌, arith}
+use Rattle.std.proofs.Common.{◌≡◌, ℕ, zero, suc, List, [], ◌∷◌, ◌++◌, reverse, refl, sym, ap, subst, ◌∙◌, arith}
 use Rattle.std.proofs.lemmas.List.{reverse-append, reverse-reverse}
-use Rattle.std.specs.List.{All}
-use Rattle.std.proofs.lemmas.List.Elements.{All-cons, All-nil}
 use Rattle.lie_datum.specs.declared.root_pair.Root.{Root}
-use Rattle.lie_datum.specs.RootDatum.{Base, simple, reflected, IsSimpleIndex, IsRoot, is_simple, is_reflected}
+use Rattle.lie_datum.specs.RootDatum.{Base, reflected, IsSimpleIndex, IsRoot, is_reflected}
 use Rattle.lie_datum.specs.RootList.{Roots, IsLoaded}
 use Rattle.lie_datum.proofs.Roots.{root_lengths, HasLengths, reflected_twice}
 use Rattle.lie_datum.proofs.LoadedLaws.{short}

@@ -1,13 +1,12 @@
 -- Descents: the simple reflections that make an element shorter from the right.
 -- Source: any text on reflection groups, as that of Humphreys.
 -- Own: the heights of the images of the simple roots, which tell the descents.
-use Rattle.std.specs.Prelude.{◌≡◌, ◌≢◌, ◌≤◌, ◌<◌, ◌-◌, ◌+ℤ◌, ◌-ℤ◌, ◌*ℤ◌, ◌<ℤ◌, ◌≤ℤ◌, ℕ, ℤ, pos, List, length, reverse, slice_index_or}
+use Rattle.std.specs.Prelude.{◌≡◌, ◌≢◌, ◌≤◌, ◌<◌, ◌-◌, ◌+ℤ◌, ◌-ℤ◌, ◌*ℤ◌, ◌<ℤ◌, ◌≤ℤ◌, ℕ, pos, List, length}
 use Rattle.std.specs.Ordering.{nat_cmp}
 use Rattle.std.specs.Cmp.Lexicographic.{slice_cmp}
-use Rattle.std.specs.declared.cmp.Ordering.{Ordering}
 use Rattle.std.specs.declared.cmp.Ordering.TheVariants.{Greater}
 use Rattle.lie_datum.specs.Vectors.{Vector, entry}
-use Rattle.lie_datum.specs.RootDatum.{Base, rank, simple, reflected, IsSimpleIndex}
+use Rattle.lie_datum.specs.RootDatum.{rank, simple, reflected, IsSimpleIndex}
 use Rattle.lie_datum.specs.RootList.{Roots, height}
 use Rattle.lie_weyl.specs.WeylElement.{moved, AreLetters, SameProduct, word_length}
 

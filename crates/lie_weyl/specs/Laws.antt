@@ -1,10 +1,6 @@
 -- Laws of lengths and words in the Weyl group of a loaded datum.
--- Source: any text on reflection groups, as that of Humphreys.
-use Rattle.std.specs.Prelude.{◌≡◌, ◌≢◌, ◌≤◌, ◌<◌, ℕ, suc, List, [], ◌∷◌, ◌++◌, length, reverse}
-use Rattle.std.specs.Ordering.{nat_cmp}
-use Rattle.std.specs.Cmp.Lexicographic.{slice_cmp}
-use Rattle.std.specs.declared.cmp.Ordering.{Ordering}
-use Rattle.std.specs.declared.cmp.Ordering.TheVariants.{Greater}
+-- Source: Humphreys, Reflection Groups and Coxeter Groups, 1.6 and 1.7.
+use Rattle.std.specs.Prelude.{◌≡◌, ◌≤◌, ◌<◌, ℕ, suc, List, [], ◌∷◌, ◌++◌, length, reverse}
 use Rattle.lie_datum.specs.RootDatum.{simple, IsSimpleIndex, IsPositive, IsNegative}
 use Rattle.lie_datum.specs.RootList.{Roots, IsLoaded}
 use Rattle.lie_weyl.specs.WeylElement.{moved, AreLetters, SameProduct, word_length}

@@ -10,7 +10,6 @@ use Rattle.std.specs.Int.RustNames.{int_lt}
 use Rattle.std.specs.List.{All, list_any, count_by}
 use Rattle.std.specs.Ordering.{nat_cmp}
 use Rattle.std.specs.Cmp.Lexicographic.{slice_cmp}
-use Rattle.std.specs.declared.cmp.Ordering.{Ordering}
 use Rattle.std.specs.declared.cmp.Ordering.TheVariants.{Greater}
 use Rattle.lie_datum.specs.declared.root_pair.Root.{Root}
 use Rattle.lie_datum.specs.RootDatum.{Base, rank, simple, reflected, IsSimpleIndex, IsRoot}

@@ -1,7 +1,7 @@
-use Rattle.std.proofs.Common.{◌≡◌, ℕ, suc, ◌+◌, ◌-◌, ◌<◌, ◌≤◌, ℤ, pos, ◌+ℤ◌, ◌-ℤ◌, ◌*ℤ◌, unsigned_abs, length, get_or, set, sym, ap, subst, ◌∙◌, arith}
+use Rattle.std.proofs.Common.{◌≡◌, suc, ◌+◌, ◌-◌, ◌≤◌, pos, ◌+ℤ◌, ◌-ℤ◌, ◌*ℤ◌, unsigned_abs, sym, ap, subst, ◌∙◌, arith}
 use Rattle.lie_datum.specs.Vectors.{entry}
 use Rattle.lie_datum.specs.RootDatum.{simple, reflected, is_simple, is_reflected, IsSimpleIndex}
-use Rattle.lie_datum.specs.RootList.{height, root_of}
+use Rattle.lie_datum.specs.RootList.{height}
 use Rattle.lie_datum.proofs.VectorLemmas.{entry_within}
 use Rattle.lie_weyl.proofs.HeightSigns.{height_within}
 use Rattle.lie_weyl.proofs.HeightSums.{plain_small, product_fits, sum_fits, sum_is}

@@ -1,7 +1,7 @@
-use Rattle.std.proofs.Common.{◌≡◌, ℕ, suc, ◌<◌, ◌≤◌, ◌-◌, length, get_or, pos, ◌+ℤ◌, ◌-ℤ◌, ◌*ℤ◌}
+use Rattle.std.proofs.Common.{◌≡◌, ℕ, suc, ◌<◌, ◌≤◌, ◌-◌, length, pos, ◌+ℤ◌, ◌-ℤ◌, ◌*ℤ◌}
 use Rattle.lie_datum.specs.Vectors.{entry}
 use Rattle.lie_datum.specs.RootDatum.{reflected, simple}
-use Rattle.lie_datum.specs.RootList.{root_of, height}
+use Rattle.lie_datum.specs.RootList.{height}
 use Rattle.lie_weyl.proofs.descents.turned.Given as goal
 
 abbrev pub invariant-loop-k : goal.invariant-loop-k

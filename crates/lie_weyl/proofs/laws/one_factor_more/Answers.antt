@@ -1,4 +1,4 @@
-use Rattle.std.proofs.Common.{◌≡◌, suc, reverse, ap, sym, ◌∙◌}
+use Rattle.std.proofs.Common.{suc, reverse, ap, sym, ◌∙◌}
 use Rattle.lie_datum.specs.RootDatum.{simple, is_simple}
 use Rattle.lie_datum.proofs.LoadedLaws.{not_both}
 use Rattle.lie_weyl.specs.WeylElement.{moved, word_length}

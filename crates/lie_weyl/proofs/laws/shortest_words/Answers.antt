@@ -1,4 +1,4 @@
-use Rattle.std.proofs.Common.{◌≡◌, ◌≤◌, arith}
+use Rattle.std.proofs.Common.{arith}
 use Rattle.lie_weyl.proofs.Words.{is_word, are_letters}
 use Rattle.lie_weyl.proofs.LengthLemmas.{reduced, length_same, length_le}
 use Rattle.lie_weyl.proofs.laws.shortest_words.Goals as goal

@@ -1,4 +1,4 @@
-use Rattle.std.proofs.Common.{◌≡◌, ◌-◌, ◌<◌, length, ap, subst, sym, ◌∙◌, arith}
+use Rattle.std.proofs.Common.{◌-◌, ap, subst, sym, ◌∙◌, arith}
 use Rattle.lie_datum.specs.Numbers.{number_at}
 use Rattle.lie_datum.specs.RootList.{IsNumber, root_of}
 use Rattle.lie_weyl.proofs.ImageLemmas.{simple_number}

@@ -1,4 +1,4 @@
-use Rattle.std.proofs.Common.{◌≡◌, ℕ, ℤ, List, reverse, subst, sym, ap, ◌∙◌}
+use Rattle.std.proofs.Common.{reverse, subst, sym, ap, ◌∙◌}
 use Rattle.std.proofs.lemmas.List.{reverse-reverse}
 use Rattle.std.specs.Cmp.Rules.{signed_items}
 use Rattle.lie_weyl.specs.WeylElement.{Spells}

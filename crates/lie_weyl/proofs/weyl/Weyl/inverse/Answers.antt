@@ -1,4 +1,4 @@
-use Rattle.std.proofs.Common.{◌≡◌, ℕ, List, reverse, subst, sym}
+use Rattle.std.proofs.Common.{reverse, subst, sym}
 use Rattle.lie_weyl.specs.WeylElement.{Spells}
 use Rattle.lie_weyl.proofs.Words.{is_word, are_letters, IsWord-reverse}
 use Rattle.lie_weyl.proofs.ElementLemmas.{respelled}

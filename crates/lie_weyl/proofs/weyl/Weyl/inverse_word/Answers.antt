@@ -1,4 +1,4 @@
-use Rattle.std.proofs.Common.{◌≡◌, ℤ, List, subst, sym}
+use Rattle.std.proofs.Common.{ℤ, List, subst, sym}
 use Rattle.lie_weyl.specs.WeylElement.{Spells}
 use Rattle.lie_weyl.proofs.ElementLemmas.{spelled_heights}
 use Rattle.lie_weyl.proofs.weyl.Weyl.inverse_word.Goals as goal

@@ -1,4 +1,4 @@
-use Rattle.std.proofs.Common.{◌≡◌, ℕ, List, reverse, subst, sym, ◌∙◌}
+use Rattle.std.proofs.Common.{reverse, subst, sym, ◌∙◌}
 use Rattle.std.proofs.lemmas.List.{reverse-reverse}
 use Rattle.std.proofs.lemmas.Result.{IfOk-weaker}
 use Rattle.lie_weyl.specs.Descents.{IsLeastOf}

@@ -1,4 +1,4 @@
-use Rattle.std.proofs.Common.{◌≡◌, ℕ, subst, sym}
+use Rattle.std.proofs.Common.{subst, sym}
 use Rattle.lie_weyl.specs.WeylElement.{IsLength}
 use Rattle.lie_weyl.proofs.ElementLemmas.{is_length}
 use Rattle.lie_weyl.proofs.weyl.Weyl.length.Goals as goal

@@ -1,4 +1,4 @@
-use Rattle.std.proofs.Common.{◌++◌, ◌≡◌, ℕ, List, ◌<◌, sym, ap, subst, ◌∙◌, arith, take}
+use Rattle.std.proofs.Common.{◌++◌, ◌≡◌, ℕ, List, sym, ap, subst, ◌∙◌, arith, take}
 use Rattle.lie_datum.specs.RootList.{IsNumber, root_of}
 use Rattle.lie_weyl.specs.WeylElement.{moved, Spells}
 use Rattle.lie_weyl.proofs.Words.{is_word, are_letters, IsWord-append, moved-append}

@@ -1,4 +1,4 @@
-use Rattle.std.proofs.Common.{◌≡◌, ap, sym, ◌∙◌, take}
+use Rattle.std.proofs.Common.{ap, sym, ◌∙◌, take}
 use Rattle.std.specs.Cmp.Rules.{signed_items}
 use Rattle.lie_weyl.specs.Padding.{unpadded, unpadded-used}
 use Rattle.lie_weyl.specs.declared.weyl.Weyl.TheInside.{Inside}

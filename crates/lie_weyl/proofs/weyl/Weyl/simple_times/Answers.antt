@@ -1,4 +1,4 @@
-use Rattle.std.proofs.Common.{◌∷◌, ◌≡◌, ℕ, ◌<◌, sym, ap, subst, ◌∙◌, arith, take}
+use Rattle.std.proofs.Common.{◌∷◌, ◌≡◌, sym, ap, subst, ◌∙◌, arith, take}
 use Rattle.std.proofs.lemmas.List.Elements.{All-cons}
 use Rattle.lie_datum.specs.RootDatum.{reflected, IsSimpleIndex}
 use Rattle.lie_datum.specs.RootList.{IsNumber, root_of}

@@ -1,4 +1,4 @@
-use Rattle.std.proofs.Common.{◌≡◌, ℕ, suc, ◌-◌, ◌<◌, ◌≤◌, sym, ap, subst, ◌∙◌, arith, take, length, get_or, pos, []}
+use Rattle.std.proofs.Common.{◌≡◌, suc, ◌-◌, ◌<◌, sym, ap, subst, ◌∙◌, arith, length, get_or, pos, []}
 use Rattle.std.proofs.lemmas.List.{get_or_default}
 use Rattle.lie_datum.specs.RootDatum.{IsWithin, simple}
 use Rattle.lie_datum.specs.RootList.{IsNumber, root_of}
