@@ -1,0 +1,5 @@
+pub mod Matrices
+pub mod Columns
+pub mod TableLemmas
+pub mod ImageLemmas
+pub mod WriteLemmas
