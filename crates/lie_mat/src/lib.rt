@@ -8,8 +8,11 @@
 //! The crate stands on `lie_ring` alone.
 #![tactic(auto)]
 
+mod entries;
 mod laws;
 mod mats;
+mod operations;
+mod rules;
 
 pub use laws::image_of_product;
 pub use mats::Mat;

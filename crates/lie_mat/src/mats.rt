@@ -5,7 +5,7 @@ ghost use Rattle.std.specs.Map.{lookup};
 ghost use Rattle.std.specs.BTreeMap.{is_at};
 ghost use Rattle.std.specs.Ordering.{nat_cmp};
 ghost use Rattle.lie_ring.specs.Rings.{Fits};
-ghost use Rattle.lie_mat.specs.Matrices.{entry, zero_matrix, with_entry};
+ghost use Rattle.lie_mat.specs.Matrices.{entry, table, zero_matrix, with_entry};
 
 use lie_ring::Ring;
 use std::alloc::{AllocError, Global};
@@ -51,14 +51,17 @@ impl<R: Ring> Mat<R> {
 
     /// The number of rows.
     pub fn rows(&self) -> usize
-        ensures { result ≡ self.now.height }
+        ensures rows { result ≡ self.now.height }
+        ensures few { result ≤ 1024 }
+        ensures entries { self.now ≡ table self.now.height self.now.width (entry R.zero self.now) }
     {
         self.height
     }
 
     /// The number of columns.
     pub fn cols(&self) -> usize
-        ensures { result ≡ self.now.width }
+        ensures cols { result ≡ self.now.width }
+        ensures few { result ≤ 1024 }
     {
         self.columns.len()
     }
