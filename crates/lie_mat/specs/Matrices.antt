@@ -1,6 +1,6 @@
 -- Matrices over a ring, and the operations on them.
 -- Source: Lang, Algebra, chapter XIII (matrices, their sums and products), chapter XVI (the matrix of a tensor product).
--- Own: the sizes and degrees that a computation may meet (`IsWideSum`, `IsWideProduct`, `IsDeepProduct`).
+-- Own: the sizes and degrees that a computation may meet (`IsWideSum`, `IsWideProduct`, `IsWideKronecker`).
 --
 --   rows and columns             count from 0
 --   M_ij                         entry z M i j           z outside of the matrix
@@ -9,7 +9,7 @@
 --   M below and right of it N    direct_sum z M N
 --   M (x) N                      kronecker R M N         a block M_ij N in the place of each M_ij
 --   h of each entry              image h M
-use Rattle.std.specs.Prelude.{◌≡◌, ℕ, zero, suc, ◌+◌, ◌-◌, ◌*◌, ◌/◌, ◌%◌, ◌^◌, ◌<◌, ◌≤◌, List, [], map, slice_index_or, eqb, ltb, cond}
+use Rattle.std.specs.Prelude.{◌≡◌, ℕ, zero, suc, ◌+◌, ◌-◌, ◌*◌, ◌/◌, ◌%◌, ◌^◌, ◌<◌, ◌≤◌, ◌⊎◌, List, [], map, slice_index_or, eqb, ltb, cond}
 use Rattle.std.specs.List.{range_with_len}
 use Rattle.lie_ring.specs.Rings.{RingOn, Fits, sum_below}
 
@@ -39,13 +39,21 @@ zero_matrix z h w = table h w (λ _ _. z)
 abbrev pub with_entry : {A : Type 0} → A → Matrix A → ℕ → ℕ → A → Matrix A
 with_entry z M row col e = table M.height M.width (λ i j. cond (eqb i row) (cond (eqb j col) e (entry z M i j)) (entry z M i j))
 
+-- the entry of a sum
+abbrev pub sum_entry : {A : Type 0} → RingOn A → Matrix A → Matrix A → ℕ → ℕ → A
+sum_entry R M N i j = R.add (entry R.zero M i j) (entry R.zero N i j)
+
 -- the sum, entry by entry
 abbrev pub sum : {A : Type 0} → RingOn A → Matrix A → Matrix A → Matrix A
-sum R M N = table M.height M.width (λ i j. R.add (entry R.zero M i j) (entry R.zero N i j))
+sum R M N = table M.height M.width (sum_entry R M N)
 
--- what the product has in row i and column j
+-- what the place k of row i and column j adds to the entry of a product
+abbrev pub product_term : {A : Type 0} → RingOn A → Matrix A → Matrix A → ℕ → ℕ → ℕ → A
+product_term R M N i j k = R.mul (entry R.zero M i k) (entry R.zero N k j)
+
+-- the entry of a product
 abbrev pub product_entry : {A : Type 0} → RingOn A → Matrix A → Matrix A → ℕ → ℕ → A
-product_entry R M N i j = sum_below R M.width (λ k. R.mul (entry R.zero M i k) (entry R.zero N k j))
+product_entry R M N i j = sum_below R M.width (product_term R M N i j)
 
 -- the product: rows of M with columns of N
 abbrev pub product : {A : Type 0} → RingOn A → Matrix A → Matrix A → Matrix A
@@ -69,10 +77,13 @@ direct_sum_entry z M N i j = cond (ltb i M.height)
 abbrev pub direct_sum : {A : Type 0} → A → Matrix A → Matrix A → Matrix A
 direct_sum z M N = table (M.height + N.height) (M.width + N.width) (direct_sum_entry z M N)
 
+-- the entry of the Kronecker product: that of M at the block, times that of N in the block
+abbrev pub kronecker_entry : {A : Type 0} → RingOn A → Matrix A → Matrix A → ℕ → ℕ → A
+kronecker_entry R M N i j = R.mul (entry R.zero M (i / N.height) (j / N.width)) (entry R.zero N (i % N.height) (j % N.width))
+
 -- the matrix with the block M_ij N for each entry of M
 abbrev pub kronecker : {A : Type 0} → RingOn A → Matrix A → Matrix A → Matrix A
-kronecker R M N = table (M.height * N.height) (M.width * N.width)
-    (λ i j. R.mul (entry R.zero M (i / N.height) (j / N.width)) (entry R.zero N (i % N.height) (j % N.width)))
+kronecker R M N = table (M.height * N.height) (M.width * N.width) (kronecker_entry R M N)
 
 -- the image of each entry
 abbrev pub image : {A B : Type 0} → (A → B) → Matrix A → Matrix B
@@ -87,15 +98,29 @@ nat_sum_below (suc n) f = nat_sum_below n f + f n
 abbrev pub IsWideSumAt : {A : Type 0} → RingOn A → Matrix A → Matrix A → ℕ → ℕ → Type 0
 IsWideSumAt R M N i j = 2 ^ 126 ≤ R.size (entry R.zero M i j) + R.size (entry R.zero N i j)
 
+-- the size of what the place k adds
+abbrev pub product_term_size : {A : Type 0} → RingOn A → Matrix A → Matrix A → ℕ → ℕ → ℕ → ℕ
+product_term_size R M N i j k = R.size (entry R.zero M i k) * R.size (entry R.zero N k j)
+
 -- the entry of the product of the matrices of the sizes
 abbrev pub product_size : {A : Type 0} → RingOn A → Matrix A → Matrix A → ℕ → ℕ → ℕ
-product_size R M N i j = nat_sum_below M.width (λ k. R.size (entry R.zero M i k) * R.size (entry R.zero N k j))
+product_size R M N i j = nat_sum_below M.width (product_term_size R M N i j)
 
 -- two entries that are multiplied for row i and column j have degrees whose sum reaches 2 ^ 30
 pub record IsDeepAt {A : Type 0} (R : RingOn A) (M N : Matrix A) (i j : ℕ) : Type 0 where
   pub mid : ℕ
   pub mid_within : mid < M.width
   pub deep : 2 ^ 30 ≤ R.degree (entry R.zero M i mid) + R.degree (entry R.zero N mid j)
+
+-- the entry of the product of the matrices of the sizes reaches 2 ^ 126, or a sum of degrees 2 ^ 30
+abbrev pub IsWideProductAt : {A : Type 0} → RingOn A → Matrix A → Matrix A → ℕ → ℕ → Type 0
+IsWideProductAt R M N i j = (2 ^ 126 ≤ product_size R M N i j) ⊎ IsDeepAt R M N i j
+
+-- the entry of the Kronecker product of the matrices of the sizes reaches 2 ^ 126, or the sum of the degrees 2 ^ 30
+abbrev pub IsWideKroneckerAt : {A : Type 0} → RingOn A → Matrix A → Matrix A → ℕ → ℕ → Type 0
+IsWideKroneckerAt R M N i j =
+    (2 ^ 126 ≤ R.size (entry R.zero M (i / N.height) (j / N.width)) * R.size (entry R.zero N (i % N.height) (j % N.width)))
+    ⊎ (2 ^ 30 ≤ R.degree (entry R.zero M (i / N.height) (j / N.width)) + R.degree (entry R.zero N (i % N.height) (j % N.width)))
 
 -- some place within the shape has it
 pub record IsSomewhere (h w : ℕ) (P : ℕ → ℕ → Type 0) : Type 0 where
@@ -105,17 +130,17 @@ pub record IsSomewhere (h w : ℕ) (P : ℕ → ℕ → Type 0) : Type 0 where
   pub col_within : col < w
   pub here : P row col
 
--- the sum of the matrices of the sizes has an entry of at least 2 ^ 126
+-- some entry of the sum is too wide
 abbrev pub IsWideSum : {A : Type 0} → RingOn A → Matrix A → Matrix A → Type 0
 IsWideSum R M N = IsSomewhere M.height M.width (IsWideSumAt R M N)
 
--- the product of the matrices of the sizes has an entry of at least 2 ^ 126
+-- some entry of the product is too wide
 abbrev pub IsWideProduct : {A : Type 0} → RingOn A → Matrix A → Matrix A → Type 0
-IsWideProduct R M N = IsSomewhere M.height N.width (λ i j. 2 ^ 126 ≤ product_size R M N i j)
+IsWideProduct R M N = IsSomewhere M.height N.width (IsWideProductAt R M N)
 
--- two entries that the product multiplies have degrees whose sum is at least 2 ^ 30
-abbrev pub IsDeepProduct : {A : Type 0} → RingOn A → Matrix A → Matrix A → Type 0
-IsDeepProduct R M N = IsSomewhere M.height N.width (IsDeepAt R M N)
+-- some entry of the Kronecker product is too wide
+abbrev pub IsWideKronecker : {A : Type 0} → RingOn A → Matrix A → Matrix A → Type 0
+IsWideKronecker R M N = IsSomewhere (M.height * N.height) (M.width * N.width) (IsWideKroneckerAt R M N)
 
 -- h carries products of matrices to products
 abbrev pub CarriesProducts : {A B : Type 0} → RingOn A → RingOn B → (A → B) → Type 0

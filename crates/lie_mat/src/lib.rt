@@ -13,6 +13,7 @@ mod laws;
 mod mats;
 mod operations;
 mod rules;
+mod sums;
 
 pub use laws::image_of_product;
 pub use mats::Mat;

@@ -1,11 +1,12 @@
 //! The operations on matrices.
 
-ghost use Rattle.std.specs.Prelude.{◌≡◌, ℕ, ◌+◌, ◌<◌, ◌≤◌, IfOk};
-ghost use Rattle.lie_mat.specs.Matrices.{AllFit, identity, transposed, direct_sum, image};
+ghost use Rattle.std.specs.Prelude.{◌≡◌, ℕ, ◌+◌, ◌*◌, ◌<◌, ◌≤◌, IfOk};
+ghost use Rattle.lie_mat.specs.Matrices.{AllFit, identity, transposed, direct_sum, image, sum, product, kronecker, IsWideSum, IsWideProduct, IsWideKronecker};
 
 use crate::entries::build;
 use crate::mats::Mat;
 use crate::rules::{DirectSum, Identity, Image, Transposed};
+use crate::sums::{Kronecker, Product, Sum};
 use lie_ring::{Hom, Ring, RingStop};
 use std::alloc::{AllocError, Global};
 
@@ -47,6 +48,60 @@ impl<R: Ring> Mat<R> {
             second: b,
         };
         build(alloc, &rule, self.rows() + b.rows(), self.cols() + b.cols())
+    }
+
+    /// The sum of two matrices of the same shape.
+    pub fn add(&self, alloc: Global, ring: &R, b: &Mat<R>) -> Result<Mat<R>, RingStop>
+        requires rows { self.now.height ≡ b.now.height }
+        requires cols { self.now.width ≡ b.now.width }
+        requires fit { AllFit (R.ring ring.now) self.now }
+        requires b_fit { AllFit (R.ring ring.now) b.now }
+        ensures value { IfOk result (λ m. m ≡ sum (R.ring ring.now) self.now b.now) }
+        ensures fit { IfOk result (AllFit (R.ring ring.now)) }
+        ensures wide { result ≡ Err RingStop.Wide → IsWideSum (R.ring ring.now) self.now b.now }
+    {
+        let rule = Sum {
+            ring,
+            first: self,
+            second: b,
+        };
+        build(alloc, &rule, self.rows(), self.cols())
+    }
+
+    /// The product, with this matrix as the left factor.
+    pub fn mul(&self, alloc: Global, ring: &R, b: &Mat<R>) -> Result<Mat<R>, RingStop>
+        requires shape { self.now.width ≡ b.now.height }
+        requires fit { AllFit (R.ring ring.now) self.now }
+        requires b_fit { AllFit (R.ring ring.now) b.now }
+        ensures value { IfOk result (λ m. m ≡ product (R.ring ring.now) self.now b.now) }
+        ensures fit { IfOk result (AllFit (R.ring ring.now)) }
+        ensures wide { result ≡ Err RingStop.Wide → IsWideProduct (R.ring ring.now) self.now b.now }
+    {
+        let rule = Product {
+            ring,
+            first: self,
+            second: b,
+        };
+        build(alloc, &rule, self.rows(), b.cols())
+    }
+
+    /// The Kronecker product: the matrix with `b` times an entry of this one as the block in its
+    /// place.
+    pub fn kron(&self, alloc: Global, ring: &R, b: &Mat<R>) -> Result<Mat<R>, RingStop>
+        requires rows { self.now.height * b.now.height ≤ 1024 }
+        requires cols { self.now.width * b.now.width ≤ 1024 }
+        requires fit { AllFit (R.ring ring.now) self.now }
+        requires b_fit { AllFit (R.ring ring.now) b.now }
+        ensures value { IfOk result (λ m. m ≡ kronecker (R.ring ring.now) self.now b.now) }
+        ensures fit { IfOk result (AllFit (R.ring ring.now)) }
+        ensures wide { result ≡ Err RingStop.Wide → IsWideKronecker (R.ring ring.now) self.now b.now }
+    {
+        let rule = Kronecker {
+            ring,
+            first: self,
+            second: b,
+        };
+        build(alloc, &rule, self.rows() * b.rows(), self.cols() * b.cols())
     }
 
     /// The matrix of the images of the entries.

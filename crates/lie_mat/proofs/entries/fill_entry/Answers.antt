@@ -1,4 +1,4 @@
-use Rattle.std.proofs.Common.{◌≡◌, ◌∙◌, sym, ap, subst, IfSome}
+use Rattle.std.proofs.Common.{◌∙◌, sym, ap, subst, IfSome}
 use Rattle.std.specs.Option.{unwrap_or}
 use Rattle.lie_ring.specs.Rings.{Fits}
 use Rattle.lie_mat.specs.Matrices.{with_entry, AllFit}

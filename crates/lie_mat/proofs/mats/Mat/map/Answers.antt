@@ -1,4 +1,4 @@
-use Rattle.std.proofs.Common.{◌≡◌, ◌∙◌, sym, ap, ap₂}
+use Rattle.std.proofs.Common.{◌∙◌, sym, ap, ap₂}
 use Rattle.lie_mat.specs.Matrices.{table, entry, image}
 use Rattle.lie_mat.specs.ImageLemmas.{image-table}
 use Rattle.lie_mat.proofs.mats.Mat.map.Goals as goal

@@ -1,4 +1,4 @@
-use Rattle.std.proofs.Common.{◌≡◌, ◌∙◌, sym, ap, length, subst}
+use Rattle.std.proofs.Common.{◌≡◌, sym, length, subst}
 use Rattle.lie_mat.specs.Matrices.{table, entry}
 use Rattle.lie_mat.specs.TableLemmas.{table-same, entry-matrix_of}
 use Rattle.lie_mat.proofs.mats.Mat.rows.Goals as goal
