@@ -9,7 +9,8 @@
 --   M below and right of it N    direct_sum z M N
 --   M (x) N                      kronecker R M N         a block M_ij N in the place of each M_ij
 --   h of each entry              image h M
-use Rattle.std.specs.Prelude.{◌≡◌, ℕ, zero, suc, ◌+◌, ◌-◌, ◌*◌, ◌/◌, ◌%◌, ◌^◌, ◌<◌, ◌≤◌, ◌⊎◌, List, [], map, slice_index_or, eqb, ltb, cond}
+--   M v                          applied R M v           v as a column
+use Rattle.std.specs.Prelude.{◌≡◌, ℕ, zero, suc, ◌+◌, ◌-◌, ◌*◌, ◌/◌, ◌%◌, ◌^◌, ◌<◌, ◌≤◌, ◌⊎◌, List, [], map, length, slice_index_or, eqb, ltb, cond}
 use Rattle.std.specs.List.{range_with_len}
 use Rattle.lie_ring.specs.Rings.{RingOn, Fits, sum_below}
 
@@ -141,6 +142,22 @@ IsWideProduct R M N = IsSomewhere M.height N.width (IsWideProductAt R M N)
 -- some entry of the Kronecker product is too wide
 abbrev pub IsWideKronecker : {A : Type 0} → RingOn A → Matrix A → Matrix A → Type 0
 IsWideKronecker R M N = IsSomewhere (M.height * N.height) (M.width * N.width) (IsWideKroneckerAt R M N)
+
+-- each element of the list may be handed to a call
+abbrev pub EachFits : {A : Type 0} → RingOn A → List A → Type 0
+EachFits R v = (k : ℕ) → k < length v → Fits R (slice_index_or v k R.zero)
+
+-- the list as a matrix of one column
+abbrev pub column : {A : Type 0} → A → List A → Matrix A
+column z v = table (length v) 1 (λ i _. slice_index_or v i z)
+
+-- M applied to v: the entries of the product with the column v
+abbrev pub applied : {A : Type 0} → RingOn A → Matrix A → List A → List A
+applied R M v = map (λ i. product_entry R M (column R.zero v) i 0) (range_with_len 0 M.height)
+
+-- some entry of M applied to v is too wide
+abbrev pub IsWideApplied : {A : Type 0} → RingOn A → Matrix A → List A → Type 0
+IsWideApplied R M v = IsWideProduct R M (column R.zero v)
 
 -- h carries products of matrices to products
 abbrev pub CarriesProducts : {A B : Type 0} → RingOn A → RingOn B → (A → B) → Type 0

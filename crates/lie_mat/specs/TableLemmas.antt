@@ -1,5 +1,5 @@
 -- Tables, and what is read from them.
-use Rattle.std.proofs.Common.{◌≡◌, ℕ, zero, suc, ◌+◌, ◌<◌, ◌≤◌, List, [], ◌∷◌, length, map, get_or, refl, sym, ap, ap₂, ◌∙◌, arith}
+use Rattle.std.proofs.Common.{◌≡◌, ℕ, zero, suc, ◌+◌, ◌<◌, ◌≤◌, List, [], ◌∷◌, ◌++◌, length, map, get_or, refl, sym, ap, ap₂, ◌∙◌, arith}
 use Rattle.std.specs.List.{range_with_len}
 use Rattle.std.specs.Prelude.{Some, None, Option, IfSome, ◌↔◌, ◌≢◌}
 use Rattle.std.specs.Borrow.{Bor}
@@ -15,6 +15,13 @@ use Rattle.lie_mat.specs.Columns.{stored, matrix_of}
 pub map-range-same : {X : Type 0} (f g : ℕ → X) (a n : ℕ) → ((i : ℕ) → a ≤ i → i < a + n → f i ≡ g i) → map f (range_with_len a n) ≡ map g (range_with_len a n)
 map-range-same f g a zero h = refl
 map-range-same f g a (suc n) h = ap₂ ◌∷◌ (h a (omega arith) (omega arith)) (map-range-same f g (a + 1) n (λ i low high. h i (omega arith) (omega arith)))
+
+-- the values over a range that is one longer
+pub map-range-last : {X : Type 0} (f : ℕ → X) (a n : ℕ) → map f (range_with_len a (suc n)) ≡ map f (range_with_len a n) ++ (f (a + n) ∷ [])
+map-range-last f a zero = ap (λ i. f i ∷ []) (let e : a ≡ a + 0 = omega arith in e)
+map-range-last f a (suc n) =
+    ap (λ xs. f a ∷ xs) (map-range-last f (a + 1) n)
+    ∙ ap (λ i. f a ∷ (map f (range_with_len (a + 1) n) ++ (f i ∷ []))) (let e : (a + 1) + n ≡ a + suc n = omega arith in e)
 
 -- an entry of a table
 pub entry-table : {A : Type 0} (z : A) (h w : ℕ) (f : ℕ → ℕ → A) (i j : ℕ) → i < h → j < w → entry z (table h w f) i j ≡ f i j

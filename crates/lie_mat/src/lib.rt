@@ -8,6 +8,8 @@
 //! The crate stands on `lie_ring` alone.
 #![tactic(auto)]
 
+mod columns;
+mod comparisons;
 mod entries;
 mod laws;
 mod mats;

@@ -5,7 +5,7 @@ ghost use Rattle.std.specs.Map.{lookup};
 ghost use Rattle.std.specs.BTreeMap.{is_at};
 ghost use Rattle.std.specs.Ordering.{nat_cmp};
 ghost use Rattle.lie_ring.specs.Rings.{Fits};
-ghost use Rattle.lie_mat.specs.Matrices.{entry, table, zero_matrix, with_entry};
+ghost use Rattle.lie_mat.specs.Matrices.{AllFit, entry, table, zero_matrix, with_entry};
 
 use lie_ring::Ring;
 use std::alloc::{AllocError, Global};
@@ -34,6 +34,19 @@ impl<R: Ring> Model for Mat<R> {
 impl<R: Ring> Mat<R> {
     /// The matrix of zeros.
     pub fn zero(alloc: Global, rows: usize, cols: usize) -> Result<Mat<R>, AllocError>
+        requires rows { rows ≤ 1024 }
+        requires cols { cols ≤ 1024 }
+        ensures value { IfOk result (λ m. m ≡ zero_matrix R.zero rows cols) }
+        ensures fit { IfOk result (λ m. (ring : R) → AllFit (R.ring ring) m) }
+    {
+        match Mat::empty(alloc, rows, cols) {
+            Ok(matrix) => Ok(matrix),
+            Err(e) => Err(e),
+        }
+    }
+
+    /// A matrix of which nothing is kept.
+    fn empty(alloc: Global, rows: usize, cols: usize) -> Result<Mat<R>, AllocError>
         requires rows { rows ≤ 1024 }
         requires cols { cols ≤ 1024 }
         ensures { IfOk result (λ m. m ≡ zero_matrix R.zero rows cols) }
@@ -84,6 +97,7 @@ impl<R: Ring> Mat<R> {
         requires col { col < self.old.width }
         requires fits { Fits (R.ring ring.now) e }
         ensures ok { OnOk result (self.new ≡ with_entry R.zero self.old row col e) }
+        ensures fit { OnOk result (AllFit (R.ring ring.now) self.old → AllFit (R.ring ring.now) self.new) }
         ensures err { OnErr result (self.new ≡ self.old) }
     {
         let zero = match ring.zero(self.alloc) {

@@ -140,7 +140,7 @@ impl<'a, R: Ring> Entries for Product<'a, R> {
 }
 
 /// The sum of the products of the entries of a row and a column.
-fn sum_of_products<R: Ring>(
+pub(crate) fn sum_of_products<R: Ring>(
     alloc: Global,
     ring: &R,
     first: &Mat<R>,

@@ -10,8 +10,8 @@ loop-row-init g c =
     let R = g.E.Ring.Ring.ring over in
     let z = g.E.Ring.Ring.zero in
     record {
-      partly = c.in-Ok.ensures ∙ partial-none z c.args.rows c.args.cols (g.E.Entries.value c.args.entries.now);
-      fit = subst (AllFit R) (sym c.in-Ok.ensures) (zeros-fit R (g.met.E.Ring.Ring.is_ring over) z (sym (g.met.E.Ring.Ring.one_zero over)) c.args.rows c.args.cols);
+      partly = c.in-Ok.ensures.value ∙ partial-none z c.args.rows c.args.cols (g.E.Entries.value c.args.entries.now);
+      fit = subst (AllFit R) (sym c.in-Ok.ensures.value) (zeros-fit R (g.met.E.Ring.Ring.is_ring over) z (sym (g.met.E.Ring.Ring.one_zero over)) c.args.rows c.args.cols);
     }
 
 pub loop-row-preserved : goal.loop-row-preserved

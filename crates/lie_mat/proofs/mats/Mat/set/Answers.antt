@@ -6,7 +6,8 @@ use Rattle.std.specs.BTreeMap.{is_at}
 use Rattle.std.specs.Ordering.{nat_cmp}
 use Rattle.std.proofs.lemmas.Bool.{false≢true}
 use Rattle.lie_mat.specs.Columns.{stored}
-use Rattle.lie_mat.specs.Matrices.{with_entry}
+use Rattle.lie_mat.specs.Matrices.{with_entry, AllFit}
+use Rattle.lie_mat.specs.PartLemmas.{with_entry-fit}
 use Rattle.lie_mat.specs.TableLemmas.{stored-read}
 use Rattle.lie_mat.specs.WriteLemmas.{kept-set, matrix-unchanged, matrix-written, changed-put}
 use Rattle.lie_mat.proofs.mats.Mat.set.Given.{Over}
@@ -51,3 +52,8 @@ returns-clause-err g c =
     matrix-unchanged g.R.Ring.zero c.self.inside.height c.self.inside.columns.items c.self.invariant c.args.row c.args.col c.put.new.column (low g c).0 (low g c).1
     (λ i. ap (lookup (is_at (nat_cmp i))) same ∙ sym (read g c i))
     ∙ c.self.view_is) c.put.ensures.err
+
+pub returns-clause-fit : goal.returns-clause-fit
+returns-clause-fit g c =
+    let R = g.R.Ring.ring c.args.ring.now in
+    on_ok_weaker c.put.result (λ ok all. subst (AllFit R) (sym ok) (with_entry-fit R (g.met.R.Ring.is_ring c.args.ring.now) g.R.Ring.zero (sym (g.met.R.Ring.one_zero c.args.ring.now)) c.args.self.now c.args.row c.args.col c.args.e c.requires.fits all)) (returns-clause-ok g c)

@@ -1,5 +1,5 @@
 use Rattle.std.proofs.Common.{◌≡◌, ℕ, [], length, get_or, map}
-use Rattle.lie_mat.proofs.mats.Mat.zero.Given as goal
+use Rattle.lie_mat.proofs.mats.Mat.empty.Given as goal
 
 abbrev pub invariant-loop : goal.invariant-loop
 invariant-loop g l = record {
