@@ -1,0 +1,21 @@
+//! Sparse matrices over a ring.
+//!
+//! `Mat` stands for a matrix of `specs/Matrices.antt`: its shape and the list of its rows. The
+//! entries that are not zero are kept, an ordered map for each column. `Mat::zero` makes a matrix
+//! of zeros and `Mat::set` writes an entry. Rows and columns count from 0, and a matrix has at most
+//! 1,024 of each.
+//!
+//! The crate stands on `lie_ring` alone.
+#![tactic(auto)]
+
+mod columns;
+mod comparisons;
+mod entries;
+mod laws;
+mod mats;
+mod operations;
+mod rules;
+mod sums;
+
+pub use laws::image_of_product;
+pub use mats::Mat;
