@@ -36,12 +36,7 @@ impl<'a, R: Ring> Entries for Column<'a, R> {
         self.ring
     }
 
-    fn entry(
-        &self,
-        alloc: Global,
-        row: usize,
-        _col: usize,
-    ) -> Result<Option<R::Elem>, RingStop> {
+    fn entry(&self, alloc: Global, row: usize, _col: usize) -> Result<Option<R::Elem>, RingStop> {
         match self.ring.copy(alloc, &self.values[row]) {
             Ok(copy) => Ok(Some(copy)),
             Err(stop) => Err(stop),
@@ -51,12 +46,7 @@ impl<'a, R: Ring> Entries for Column<'a, R> {
 
 impl<R: Ring> Mat<R> {
     /// The product with a column, which is given and answered as the list of its entries.
-    pub fn apply(
-        &self,
-        alloc: Global,
-        ring: &R,
-        v: &[R::Elem],
-    ) -> Result<Vec<R::Elem>, RingStop>
+    pub fn apply(&self, alloc: Global, ring: &R, v: &[R::Elem]) -> Result<Vec<R::Elem>, RingStop>
         requires shape { length v.now ≡ self.now.width }
         requires fit { AllFit (R.ring ring.now) self.now }
         requires v_fit { EachFits (R.ring ring.now) v.now }

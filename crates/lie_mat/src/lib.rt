@@ -2,10 +2,11 @@
 //!
 //! `Mat` stands for a matrix of `specs/Matrices.antt`: its shape and the list of its rows. The
 //! entries that are not zero are kept, an ordered map for each column. `Mat::zero` makes a matrix
-//! of zeros and `Mat::set` writes an entry. Rows and columns count from 0, and a matrix has at most
-//! 1,024 of each.
+//! of zeros and `Mat::set` writes an entry; the operations make a matrix entry by entry, each by a
+//! rule (`Entries`). Rows and columns count from 0, and a matrix has at most 1,024 of each.
 //!
-//! The crate stands on `lie_ring` alone.
+//! The contracts cite `specs/Matrices.antt` alone. `specs/Columns.antt` is how a matrix is kept,
+//! and `specs/Parts.antt` how it is filled. The crate stands on `lie_ring` alone.
 #![tactic(auto)]
 
 mod columns;
@@ -19,3 +20,6 @@ mod sums;
 
 pub use laws::image_of_product;
 pub use mats::Mat;
+
+#[cfg(test)]
+mod tests;

@@ -1,4 +1,4 @@
-use Rattle.std.proofs.Common.{◌≡◌, ◌∙◌, ◌+◌, suc, ℕ, map, length, List, [], ◌∷◌, ◌++◌, sym, ap, arith, slice_index_or}
+use Rattle.std.proofs.Common.{◌≡◌, ◌∙◌, ◌+◌, suc, ℕ, map, length, [], ◌∷◌, ◌++◌, sym, ap, arith, slice_index_or}
 use Rattle.std.specs.List.{range_with_len}
 use Rattle.lie_mat.specs.Matrices.{table, product_entry, column}
 use Rattle.lie_mat.specs.TableLemmas.{map-range-last}

@@ -1,4 +1,4 @@
-use Rattle.std.proofs.Common.{◌≡◌, sym, subst}
+use Rattle.std.proofs.Common.{sym, subst}
 use Rattle.lie_mat.specs.Matrices.{AllFit}
 use Rattle.lie_mat.specs.PartLemmas.{zeros-fit}
 use Rattle.lie_mat.proofs.mats.Mat.zero.Goals as goal
