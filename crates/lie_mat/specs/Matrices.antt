@@ -1,5 +1,5 @@
 -- Matrices over a ring, and the operations on them.
--- Source: Lang, Algebra, chapter XIII (matrices, their sums and products), chapter XVI (the matrix of a tensor product).
+-- Source: any text on algebra (matrices, their sums and products, the matrix of a tensor product).
 -- Own: the sizes and degrees that a computation may meet (`IsWideSum`, `IsWideProduct`, `IsWideKronecker`).
 --
 --   rows and columns             count from 0
