@@ -10,4 +10,5 @@ pub mod DescentRuns
 pub mod GreedyLemmas
 pub mod ElementLemmas
 pub mod ImageLemmas
+pub mod OrderLemmas
 mod WorkedExamples

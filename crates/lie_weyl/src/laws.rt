@@ -1,6 +1,7 @@
 //! What follows from the definitions alone: laws of every loaded datum.
 
 ghost use Rattle.lie_weyl.specs.Laws.{RightLengths, LeftLengths, InverseLengths, ShortestWords, Exchange, GreedyIsLeast};
+ghost use Rattle.lie_weyl.specs.Orders.{OrdersOfProducts};
 
 /// One simple factor more changes the length by one, up or down as the sign of the image of the
 /// simple root tells.
@@ -28,4 +29,9 @@ pub fn exchange()
 /// The word that begins with the first descent each time is the least word.
 pub fn greedy_is_least()
     ensures { GreedyIsLeast }
+{}
+
+/// The order of a product of two simple reflections: 2, 3, 4 or 6, by the Cartan integers.
+pub fn orders_of_products()
+    ensures { OrdersOfProducts }
 {}

@@ -3,8 +3,9 @@
 //! A `Weyl` is an element of the Weyl group, kept by the images of the simple roots; the calls
 //! `identity`, `from_word` and `from_images` make one, and every further call takes the datum that
 //! it belongs to. Contracts cite `Spells`, `IsLength` and `IsLeastWord` of
-//! `specs/WeylElement.antt`; the laws of lengths and words are public functions of `laws`. The crate
-//! stands on `lie_datum`, whose tables it reads, and on `arrayvec` for words that need no memory.
+//! `specs/WeylElement.antt`; the laws of lengths, words and orders are public functions of `laws`.
+//! The crate stands on `lie_datum`, whose tables it reads, and on `arrayvec` for words that need no
+//! memory.
 #![tactic(auto)]
 
 mod descents;
@@ -12,7 +13,9 @@ mod laws;
 mod simple;
 mod weyl;
 
-pub use laws::{exchange, greedy_is_least, inverse_lengths, one_factor_more, shortest_words};
+pub use laws::{
+    exchange, greedy_is_least, inverse_lengths, one_factor_more, orders_of_products, shortest_words,
+};
 pub use weyl::Weyl;
 
 #[cfg(test)]

@@ -5,7 +5,10 @@ ghost use Rattle.std.specs.List.{All};
 ghost use Rattle.lie_datum.specs.RootList.{IsNumber};
 ghost use Rattle.lie_weyl.specs.WeylElement.{AreLetters, IsElement};
 
-use crate::{Weyl, exchange, greedy_is_least, inverse_lengths, one_factor_more, shortest_words};
+use crate::{
+    Weyl, exchange, greedy_is_least, inverse_lengths, one_factor_more, orders_of_products,
+    shortest_words,
+};
 use lie_datum::{Datum, RootId, Vector};
 use std::alloc::Global;
 use std::process::Abort;
@@ -391,4 +394,5 @@ fn laws(_rt: HostRuntime) {
     shortest_words();
     exchange();
     greedy_is_least();
+    orders_of_products();
 }
