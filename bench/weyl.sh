@@ -60,7 +60,7 @@ report lie "$(least "$rooms/with" "$top/crates/lie_cli/out/lie_cli" run)" "$(lea
 if [ -n "${LIE:-}" ]; then
     {
         printf 'maxnodes 900000\nmaxobjects 4000000\nm=['
-        awk '{ gsub(/^ /, ""); gsub(/ /, ","); printf "%s[%s]", NR > 1 ? "," : "", $0 }' "$rooms/words"
+        awk '{ gsub(/^ /, ""); gsub(/ /, ","); printf "%s[%s]", (NR > 1 ? "," : ""), $0 }' "$rooms/words"
         printf ']\n'
     } >"$rooms/matrix"
     { cat "$rooms/matrix"; echo 'for w row m do canonical(w,E8) od'; } >"$rooms/lie_with"
