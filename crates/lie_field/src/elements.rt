@@ -21,6 +21,13 @@ impl Model for Fe {
 }
 
 impl Fe {
+    /// The zero of every field.
+    pub fn zero() -> Fe
+        ensures { result ≡ 0 }
+    {
+        Fe { number: 0 }
+    }
+
     /// The number whose digits in base p are the coefficients, the constant coefficient lowest.
     pub fn number(self) -> u32
         ensures { result ≡ self }

@@ -204,7 +204,10 @@ fn calls_of_a_roomy_ring(rt: HostRuntime) -> Result<(), Fail> {
 fn integers_in_a_roomy_ring(rt: HostRuntime) -> Result<(), Fail> {
     let alloc = rt.alloc();
     let field = nine(alloc)?;
-    assert_eq!(rt; roomy_zero(&field, alloc)?.number(), 0);
+    assert_eq!(rt;
+        (roomy_zero(&field, alloc)?, Fe::zero().number()),
+        (Fe::zero(), 0)
+    );
     assert_eq!(rt; roomy_one(&field, alloc)?.number(), 1);
     assert_eq!(rt; roomy_of_int(&field, alloc, 10)?.number(), 1);
     let hom = FromIntegers::new(&Ints, &field);

@@ -1,14 +1,11 @@
 -- Sums and products in which an entry is zero, and the size of a running sum.
-use Rattle.std.proofs.Common.{◌≡◌, ℕ, zero, suc, ◌+◌, ◌*◌, ◌^◌, ◌<◌, ◌≤◌, ◌⊎◌, sym, ap, ◌∙◌, inl, inr, arith}
+use Rattle.std.proofs.Common.{◌≡◌, ℕ, zero, suc, ◌+◌, ◌*◌, ◌^◌, ◌<◌, ◌≤◌, ◌⊎◌, List, [], ◌∷◌, ◌++◌, length, length-append, sym, ap, ◌∙◌, inl, inr, subst, arith}
 use Rattle.std.proofs.lemmas.Bool.{cases_lt}
-use Rattle.lie_ring.specs.Rings.{RingOn, IsElem, IsRing}
+use Rattle.std.proofs.lemmas.List.{get_or_append_left, get_or_push}
+use Rattle.lie_ring.specs.Rings.{RingOn, IsElem, Fits, IsRing}
 use Rattle.lie_ring.specs.RingLemmas.{mul_zero, zero_mul}
-use Rattle.lie_mat.specs.Matrices.{Matrix, entry, nat_sum_below, product_size, product_term_size, IsDeepAt}
-
--- a product above a number has a second factor
-pub factor_positive : (a b n : ℕ) → n < a * b → 0 < b
-factor_positive a zero n h = absurd (let never : ⊥ = omega (arith, h) in never)
-factor_positive a (suc b) n h = omega arith
+use Rattle.lie_ring.specs.Matrices.{Matrix, entry, EachFits}
+use Rattle.lie_mat.specs.Wide.{nat_sum_below, product_size, product_term_size, IsDeepAt}
 
 -- one more term of a sum is within the whole sum
 pub term_within : (f : ℕ → ℕ) (n k : ℕ) → k < n → nat_sum_below k f + f k ≤ nat_sum_below n f
@@ -49,3 +46,10 @@ pub wide_step : {A : Type 0} (R : RingOn A) (M N : Matrix A) (i j k : ℕ) (s : 
     → (2 ^ 126 ≤ product_size R M N i j) ⊎ IsDeepAt R M N i j
 wide_step R M N i j k s h small (inl wide) = inl (omega (arith, small, wide, term_within (product_term_size R M N i j) M.width k h))
 wide_step R M N i j k s h small (inr deep) = inr (record { mid = k; mid_within = h; deep = deep })
+
+-- a list of which each element fits, with one more
+pub push-fits : {A : Type 0} (R : RingOn A) (xs : List A) (x : A) → EachFits R xs → Fits R x → EachFits R (xs ++ x ∷ [])
+push-fits R xs x each fits k p = elim (cases_lt k (length xs)) [
+  | inl low ↦ subst (Fits R) (sym (get_or_append_left xs (x ∷ []) R.zero k low)) (each k low)
+  | inr high ↦ subst (Fits R) (sym (get_or_push xs x R.zero k (let q = length-append xs (x ∷ []) in omega (arith, p, q, high)))) fits
+]

@@ -5,7 +5,7 @@ use Rattle.std.specs.Option.{unwrap_or}
 use Rattle.std.specs.Map.{lookup}
 use Rattle.std.specs.BTreeMap.{BTreeMap, is_at}
 use Rattle.std.specs.Ordering.{nat_cmp}
-use Rattle.lie_mat.specs.Matrices.{Matrix, table}
+use Rattle.lie_ring.specs.Matrices.{Matrix, table}
 
 -- what is kept for row i and column j
 abbrev pub stored : {A : Type 0} → List (BTreeMap ℕ A) → ℕ → ℕ → Option A

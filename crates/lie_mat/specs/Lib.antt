@@ -1,7 +1,7 @@
-pub mod Matrices
+pub mod Wide
 pub mod Columns
+pub mod Kept
 pub mod Parts
-pub mod TableLemmas
-pub mod ImageLemmas
+pub mod ColumnLemmas
 pub mod WriteLemmas
 pub mod PartLemmas

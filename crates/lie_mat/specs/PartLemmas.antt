@@ -3,9 +3,9 @@ use Rattle.std.proofs.Common.{◌≡◌, ◌≢◌, ℕ, ◌+◌, ◌<◌, refl,
 use Rattle.std.proofs.lemmas.Bool.{cases_eq, eq-eqb, ne_eqb}
 use Rattle.std.proofs.lemmas.Bool.Decides.{nat_tests}
 use Rattle.lie_ring.specs.Rings.{RingOn, IsRing, Fits}
-use Rattle.lie_mat.specs.Matrices.{Matrix, table, entry, with_entry, zero_matrix, AllFit}
+use Rattle.lie_ring.specs.Matrices.{Matrix, table, entry, with_entry, zero_matrix, AllFit}
 use Rattle.lie_mat.specs.Parts.{is_before, partial_table}
-use Rattle.lie_mat.specs.TableLemmas.{table-same, entry-table}
+use Rattle.lie_ring.specs.MatrixLemmas.{table-same, entry-table}
 
 -- a row below the first is not filled
 before-none : (k l : ℕ) → is_before 0 0 k l ≡ false

@@ -1,7 +1,7 @@
 -- A table that is filled row by row, and whose other places are zero.
 -- Own: the order of the places.
 use Rattle.std.specs.Prelude.{ℕ, eqb, ltb, cond, Bool}
-use Rattle.lie_mat.specs.Matrices.{Matrix, table}
+use Rattle.lie_ring.specs.Matrices.{Matrix, table}
 
 -- row k and column l come before row i and column j
 abbrev pub is_before : ℕ → ℕ → ℕ → ℕ → Bool

@@ -5,9 +5,10 @@ use Rattle.std.specs.Map.{lookup}
 use Rattle.std.specs.BTreeMap.{BTreeMap, is_at}
 use Rattle.std.specs.Ordering.{nat_cmp}
 use Rattle.std.proofs.lemmas.Bool.{cases_eq, eq-eqb, ne_eqb}
-use Rattle.lie_mat.specs.Matrices.{table, entry, with_entry}
+use Rattle.lie_ring.specs.Matrices.{table, entry, with_entry}
 use Rattle.lie_mat.specs.Columns.{stored, matrix_of, IsKept}
-use Rattle.lie_mat.specs.TableLemmas.{table-same, entry-matrix_of}
+use Rattle.lie_ring.specs.MatrixLemmas.{table-same}
+use Rattle.lie_mat.specs.ColumnLemmas.{entry-matrix_of}
 
 -- what is kept in a column that was written
 pub stored-set_same : {A : Type 0} (columns : List (BTreeMap ℕ A)) (i j : ℕ) (c : BTreeMap ℕ A) → j < length columns → stored (set columns j c) i j ≡ lookup (is_at (nat_cmp i)) c.entries

@@ -1,7 +1,8 @@
 //! A list as a matrix of one column, and a matrix applied to it.
 
 ghost use Rattle.std.specs.Prelude.{◌≡◌, ℕ, ◌<◌, ◌≤◌, IfOk, length};
-ghost use Rattle.lie_mat.specs.Matrices.{AllFit, EachFits, applied, column, IsWideApplied};
+ghost use Rattle.lie_ring.specs.Matrices.{AllFit, EachFits, applied, column};
+ghost use Rattle.lie_mat.specs.Wide.{IsWideApplied};
 
 use crate::entries::{Entries, build};
 use crate::mats::Mat;
@@ -51,6 +52,7 @@ impl<R: Ring> Mat<R> {
         requires fit { AllFit (R.ring ring.now) self.now }
         requires v_fit { EachFits (R.ring ring.now) v.now }
         ensures value { IfOk result (λ w. w.items ≡ applied (R.ring ring.now) self.now v.now) }
+        ensures fits { IfOk result (λ w. EachFits (R.ring ring.now) w.items) }
         ensures wide { result ≡ Err RingStop.Wide → IsWideApplied (R.ring ring.now) self.now v.now }
     {
         let few = self.cols();

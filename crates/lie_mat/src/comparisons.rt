@@ -1,7 +1,7 @@
 //! Whether two matrices are equal.
 
 ghost use Rattle.std.specs.Prelude.{◌≡◌, ℕ, ◌<◌, ◌↔◌, IsTrue};
-ghost use Rattle.lie_mat.specs.Matrices.{AllFit, entry};
+ghost use Rattle.lie_ring.specs.Matrices.{AllFit, entry};
 
 use crate::mats::Mat;
 use lie_ring::Ring;

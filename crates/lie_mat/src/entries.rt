@@ -3,7 +3,8 @@
 ghost use Rattle.std.specs.Prelude.{◌≡◌, ℕ, ◌+◌, ◌<◌, ◌≤◌, IfOk, OnOk, IfSome};
 ghost use Rattle.std.specs.Option.{unwrap_or};
 ghost use Rattle.lie_ring.specs.Rings.{Fits};
-ghost use Rattle.lie_mat.specs.Matrices.{table, entry, AllFit, IsSomewhere};
+ghost use Rattle.lie_ring.specs.Matrices.{table, entry, AllFit};
+ghost use Rattle.lie_mat.specs.Wide.{IsSomewhere};
 ghost use Rattle.lie_mat.specs.Parts.{partial_table};
 
 use crate::mats::Mat;
@@ -11,7 +12,7 @@ use lie_ring::{Ring, RingStop};
 use std::alloc::Global;
 
 /// A rule for the entries of a matrix over a ring.
-pub(crate) trait Entries {
+pub trait Entries {
     type Ring: Ring;
 
     /// The ring.
@@ -47,7 +48,7 @@ pub(crate) trait Entries {
 }
 
 /// The matrix of the entries that a rule gives.
-pub(crate) fn build<E: Entries>(
+pub fn build<E: Entries>(
     alloc: Global,
     entries: &E,
     rows: usize,

@@ -1,6 +1,6 @@
 //! Laws of matrices that the crates above cite.
 
-ghost use Rattle.lie_mat.specs.Matrices.{CarriesProducts};
+ghost use Rattle.lie_ring.specs.Matrices.{CarriesProducts};
 
 use lie_ring::Hom;
 

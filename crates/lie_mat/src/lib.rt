@@ -1,12 +1,13 @@
 //! Sparse matrices over a ring.
 //!
-//! `Mat` stands for a matrix of `specs/Matrices.antt`: its shape and the list of its rows. The
-//! entries that are not zero are kept, an ordered map for each column. `Mat::zero` makes a matrix
-//! of zeros and `Mat::set` writes an entry; the operations make a matrix entry by entry, each by a
-//! rule (`Entries`). Rows and columns count from 0, and a matrix has at most 1,024 of each.
+//! `Mat` stands for a matrix of lie_ring's `specs/Matrices.antt`: its shape and the list of its
+//! rows. The entries that are not zero are kept, an ordered map for each column. `Mat::zero` makes a
+//! matrix of zeros and `Mat::set` writes an entry; the operations make a matrix entry by entry, each
+//! by a rule (`Entries`, and `build` for the crates above). Rows and columns count from 0, and a matrix has at most 1,024 of each.
 //!
-//! The contracts cite `specs/Matrices.antt` alone. `specs/Columns.antt` is how a matrix is kept,
-//! and `specs/Parts.antt` how it is filled. The crate stands on `lie_ring` alone.
+//! The contracts cite that file, and `specs/Wide.antt` for where an answer may be too large.
+//! `specs/Columns.antt` is how a matrix is kept, `specs/Parts.antt` how it is filled, and
+//! `specs/Kept.antt` how a column is walked. The crate stands on `lie_ring` alone.
 #![tactic(auto)]
 
 mod columns;
@@ -18,6 +19,7 @@ mod operations;
 mod rules;
 mod sums;
 
+pub use entries::{Entries, build};
 pub use laws::image_of_product;
 pub use mats::Mat;
 

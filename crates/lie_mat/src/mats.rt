@@ -1,11 +1,12 @@
 //! A sparse matrix: how it is kept, and reading and writing an entry.
 
-ghost use Rattle.std.specs.Prelude.{◌≡◌, ℕ, ◌<◌, ◌≤◌, ◌↔◌, IfOk, OnOk, OnErr, IfSome, cond, eqb};
+ghost use Rattle.std.specs.Prelude.{◌≡◌, ℕ, ◌<◌, ◌≤◌, ◌↔◌, IfOk, OnOk, OnErr, IfSome, MatchOption, cond, eqb};
 ghost use Rattle.std.specs.Map.{lookup};
 ghost use Rattle.std.specs.BTreeMap.{is_at};
 ghost use Rattle.std.specs.Ordering.{nat_cmp};
 ghost use Rattle.lie_ring.specs.Rings.{Fits};
-ghost use Rattle.lie_mat.specs.Matrices.{AllFit, entry, table, zero_matrix, with_entry};
+ghost use Rattle.lie_mat.specs.Kept.{AreZeros, IsNextKept};
+ghost use Rattle.lie_ring.specs.Matrices.{AllFit, entry, table, zero_matrix, with_entry};
 
 use lie_ring::Ring;
 use std::alloc::{AllocError, Global};
@@ -21,7 +22,7 @@ pub struct Mat<R: Ring> {
 }
 
 impl<R: Ring> Model for Mat<R> {
-    ghost use Rattle.lie_mat.specs.Matrices.{Matrix};
+    ghost use Rattle.lie_ring.specs.Matrices.{Matrix};
     ghost use Rattle.lie_mat.specs.Columns.{matrix_of, IsKept};
 
     ghost Value = { Matrix R.Elem };
@@ -87,6 +88,19 @@ impl<R: Ring> Mat<R> {
         ensures some { IfSome result (λ e. e.now ≡ entry R.zero self.now row col) }
     {
         self.columns[col].get(&row)
+    }
+
+    /// The first entry of a column that is kept, from a row on, with its row.
+    pub(crate) fn next_kept(&self, from: usize, col: usize) -> Option<(usize, &R::Elem)>
+        requires col { col < self.now.width }
+        ensures next { MatchOption result (AreZeros R.zero self.now col from self.now.height)
+            (λ p. IsNextKept R.zero self.now col from p.0 p.1.now) }
+        ensures few { IfSome result (λ p. p.0 < 1024) }
+    {
+        match self.columns[col].range(from..).next() {
+            Some((row, e)) => Some((*row, e)),
+            None => None,
+        }
     }
 
     /// Writes an entry, and keeps nothing where it is zero.

@@ -1,7 +1,8 @@
 //! The operations on matrices.
 
 ghost use Rattle.std.specs.Prelude.{◌≡◌, ℕ, ◌+◌, ◌*◌, ◌<◌, ◌≤◌, IfOk};
-ghost use Rattle.lie_mat.specs.Matrices.{AllFit, identity, transposed, direct_sum, image, sum, product, kronecker, IsWideSum, IsWideProduct, IsWideKronecker};
+ghost use Rattle.lie_ring.specs.Matrices.{AllFit, identity, transposed, direct_sum, image, sum, product, kronecker};
+ghost use Rattle.lie_mat.specs.Wide.{IsWideSum, IsWideProduct, IsWideKronecker};
 
 use crate::entries::build;
 use crate::mats::Mat;

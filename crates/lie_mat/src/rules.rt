@@ -1,7 +1,7 @@
 //! The rules for the entries of a matrix that is made of others with no sum or product.
 
 ghost use Rattle.std.specs.Prelude.{◌≡◌, ℕ, ◌+◌, ◌<◌, ◌≤◌, eqb, cond};
-ghost use Rattle.lie_mat.specs.Matrices.{AllFit};
+ghost use Rattle.lie_ring.specs.Matrices.{AllFit};
 
 use crate::entries::{Entries, copy_entry};
 use crate::mats::Mat;
@@ -54,7 +54,7 @@ pub(crate) struct Transposed<'a, R: Ring> {
 impl<'a, R: Ring> Entries for Transposed<'a, R> {
     type Ring = R;
 
-    ghost use Rattle.lie_mat.specs.Matrices.{entry};
+    ghost use Rattle.lie_ring.specs.Matrices.{entry};
 
     ghost over = { λ s. s.ring.now };
 
@@ -88,7 +88,7 @@ pub(crate) struct DirectSum<'a, R: Ring> {
 impl<'a, R: Ring> Entries for DirectSum<'a, R> {
     type Ring = R;
 
-    ghost use Rattle.lie_mat.specs.Matrices.{direct_sum_entry};
+    ghost use Rattle.lie_ring.specs.Matrices.{direct_sum_entry};
 
     ghost over = { λ s. s.ring.now };
 
@@ -132,7 +132,7 @@ pub(crate) struct Image<'a, H: Hom> {
 impl<'a, H: Hom> Entries for Image<'a, H> {
     type Ring = H::Dst;
 
-    ghost use Rattle.lie_mat.specs.Matrices.{entry};
+    ghost use Rattle.lie_ring.specs.Matrices.{entry};
 
     ghost over = { λ s. H.target s.hom.now };
 

@@ -2,7 +2,8 @@
 
 ghost use Rattle.std.specs.Prelude.{◌≡◌, ℕ, ◌+◌, ◌*◌, ◌<◌, ◌≤◌, ◌^◌, ◌⊎◌, IfOk};
 ghost use Rattle.lie_ring.specs.Rings.{Fits, sum_below};
-ghost use Rattle.lie_mat.specs.Matrices.{entry, AllFit, product_term, product_entry, product_size, IsDeepAt};
+ghost use Rattle.lie_ring.specs.Matrices.{entry, AllFit, product_term, product_entry};
+ghost use Rattle.lie_mat.specs.Wide.{product_size, IsDeepAt};
 
 use crate::entries::Entries;
 use crate::mats::Mat;
@@ -24,7 +25,8 @@ pub(crate) struct Sum<'a, R: Ring> {
 impl<'a, R: Ring> Entries for Sum<'a, R> {
     type Ring = R;
 
-    ghost use Rattle.lie_mat.specs.Matrices.{sum_entry, IsWideSumAt};
+    ghost use Rattle.lie_ring.specs.Matrices.{sum_entry};
+    ghost use Rattle.lie_mat.specs.Wide.{IsWideSumAt};
 
     ghost over = { λ s. s.ring.now };
 
@@ -67,7 +69,8 @@ pub(crate) struct Kronecker<'a, R: Ring> {
 impl<'a, R: Ring> Entries for Kronecker<'a, R> {
     type Ring = R;
 
-    ghost use Rattle.lie_mat.specs.Matrices.{kronecker_entry, IsWideKroneckerAt};
+    ghost use Rattle.lie_ring.specs.Matrices.{kronecker_entry};
+    ghost use Rattle.lie_mat.specs.Wide.{IsWideKroneckerAt};
 
     ghost over = { λ s. s.ring.now };
 
@@ -115,7 +118,8 @@ pub(crate) struct Product<'a, R: Ring> {
 impl<'a, R: Ring> Entries for Product<'a, R> {
     type Ring = R;
 
-    ghost use Rattle.lie_mat.specs.Matrices.{product_entry, IsWideProductAt};
+    ghost use Rattle.lie_ring.specs.Matrices.{product_entry};
+    ghost use Rattle.lie_mat.specs.Wide.{IsWideProductAt};
 
     ghost over = { λ s. s.ring.now };
 
@@ -157,51 +161,39 @@ pub(crate) fn sum_of_products<R: Ring>(
     ensures fits { IfOk result (Fits (R.ring ring.now)) }
     ensures wide { result ≡ Err RingStop.Wide → (2 ^ 126 ≤ product_size (R.ring ring.now) first.now second.now row col) ⊎ IsDeepAt (R.ring ring.now) first.now second.now row col }
 {
-    let mut sum = match ring.zero(alloc) {
-        Ok(zero) => zero,
-        Err(stop) => return Err(stop),
-    };
-    for k in 0..first.cols() {
-        sum = match add_product(alloc, ring, first, second, row, k, col, sum) {
-            Ok(sum) => sum,
-            Err(stop) => return Err(stop),
-        };
+    let mut sum = ring.zero(alloc)?;
+    let mut from = 0;
+    while let Some((mid, y)) = second.next_kept(from, col) {
+        sum = add_product(alloc, ring, first, row, mid, y, sum)?;
+        from = mid + 1;
     }
     Ok(sum)
 }
 
-/// A sum, and one more product added.
+/// A sum, and the product of an entry with an element added.
 fn add_product<R: Ring>(
     alloc: Global,
     ring: &R,
     first: &Mat<R>,
-    second: &Mat<R>,
     row: usize,
     mid: usize,
-    col: usize,
+    y: &R::Elem,
     sum: R::Elem,
 ) -> Result<R::Elem, RingStop>
     requires row { row < first.now.height }
     requires mid { mid < first.now.width }
-    requires col { col < second.now.width }
-    requires shape { first.now.width ≡ second.now.height }
     requires first_fit { AllFit (R.ring ring.now) first.now }
-    requires second_fit { AllFit (R.ring ring.now) second.now }
+    requires y { Fits (R.ring ring.now) y.now }
     requires sum { Fits (R.ring ring.now) sum }
-    ensures value { IfOk result (λ r. r ≡ (R.ring ring.now).add sum (product_term (R.ring ring.now) first.now second.now row col mid)) }
+    ensures value { IfOk result (λ r. r ≡ (R.ring ring.now).add sum ((R.ring ring.now).mul (entry (R.ring ring.now).zero first.now row mid) y.now)) }
     ensures fits { IfOk result (Fits (R.ring ring.now)) }
-    ensures wide { result ≡ Err RingStop.Wide → (2 ^ 126 ≤ (R.ring ring.now).size sum + (R.ring ring.now).size (entry (R.ring ring.now).zero first.now row mid) * (R.ring ring.now).size (entry (R.ring ring.now).zero second.now mid col)) ⊎ (2 ^ 30 ≤ (R.ring ring.now).degree (entry (R.ring ring.now).zero first.now row mid) + (R.ring ring.now).degree (entry (R.ring ring.now).zero second.now mid col)) }
+    ensures wide { result ≡ Err RingStop.Wide → (2 ^ 126 ≤ (R.ring ring.now).size sum + (R.ring ring.now).size (entry (R.ring ring.now).zero first.now row mid) * (R.ring ring.now).size y.now) ⊎ (2 ^ 30 ≤ (R.ring ring.now).degree (entry (R.ring ring.now).zero first.now row mid) + (R.ring ring.now).degree y.now) }
 {
-    let x = match first.get(row, mid) {
-        None => return Ok(sum),
-        Some(x) => x,
-    };
-    let y = match second.get(mid, col) {
-        None => return Ok(sum),
-        Some(y) => y,
-    };
-    match ring.mul(alloc, x, y) {
-        Ok(product) => ring.add(alloc, &sum, &product),
-        Err(stop) => Err(stop),
+    match first.get(row, mid) {
+        None => Ok(sum),
+        Some(x) => {
+            let product = ring.mul(alloc, x, y)?;
+            ring.add(alloc, &sum, &product)
+        }
     }
 }

@@ -2,7 +2,7 @@
 
 ghost use Rattle.std.specs.Prelude.{◌≡◌, ◌<◌, IfOk};
 ghost use Rattle.lie_ring.specs.Integers.{integers};
-ghost use Rattle.lie_mat.specs.Matrices.{AllFit};
+ghost use Rattle.lie_ring.specs.Matrices.{AllFit};
 
 use crate::Mat;
 use lie_ring::{Ints, RingStop};

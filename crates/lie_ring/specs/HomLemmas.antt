@@ -53,9 +53,9 @@ module _ {A B : Type 0} (R : RingOn A) (S : RingOn B) (h : A → B) (ring : IsRi
       add_cancel S target.laws (h (R.of_int (negsuc n))) (S.of_int (negsuc n)) (S.of_int (pos (suc n))) (hom.elem (R.of_int (negsuc n)) (p (negsuc n))) (q (negsuc n)) (q (pos (suc n)))
       (ap (S.add (h (R.of_int (negsuc n)))) (sym (hom_pos (suc n))) ∙ left ∙ hom_pos 0 ∙ sym right)
 
-  -- the image of a sum is the sum of the images
-  pub hom-sum : (n : ℕ) (f : ℕ → A) → ((k : ℕ) → k < n → IsElem R (f k)) → h (sum_below R n f) ≡ sum_below S n (λ k. h (f k))
-  hom-sum zero f p = hom.zero
-  hom-sum (suc n) f p =
-      hom.add (sum_below R n f) (f n) (sum-elem R ring.laws n f (λ k q. p k (omega arith))) (p n (omega arith))
-      ∙ ap (λ s. S.add s (h (f n))) (hom-sum n f (λ k q. p k (omega arith)))
+-- the image of a sum is the sum of the images
+pub hom-sum : {A B : Type 0} (R : RingOn A) (S : RingOn B) (h : A → B) → IsRing R → IsHom R S h → (n : ℕ) (f : ℕ → A) → ((k : ℕ) → k < n → IsElem R (f k)) → h (sum_below R n f) ≡ sum_below S n (λ k. h (f k))
+hom-sum R S h ring hom zero f p = hom.zero
+hom-sum R S h ring hom (suc n) f p =
+    hom.add (sum_below R n f) (f n) (sum-elem R ring.laws n f (λ k q. p k (omega arith))) (p n (omega arith))
+    ∙ ap (λ s. S.add s (h (f n))) (hom-sum R S h ring hom n f (λ k q. p k (omega arith)))

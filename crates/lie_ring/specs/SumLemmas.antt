@@ -1,8 +1,14 @@
 -- Sums of the terms below a number, `sum_below R n f` = f 0 + .. + f (n - 1).
-use Rattle.std.proofs.Common.{◌≡◌, ◌≢◌, ℕ, zero, suc, ◌<◌, refl, sym, ap, ap₂, ◌∙◌, inl, inr, subst, arith}
+use Rattle.std.proofs.Common.{◌≡◌, ◌≢◌, ℕ, zero, suc, ◌+◌, ◌*◌, ◌/◌, ◌%◌, ◌<◌, refl, sym, ap, ap₂, ◌∙◌, inl, inr, subst, arith}
 use Rattle.std.proofs.lemmas.Bool.{cases_lt}
+use Rattle.std.proofs.lemmas.Nat.{div-mul-add, mod-mul-add, div_below, mod_below}
 use Rattle.lie_ring.specs.Rings.{RingOn, IsElem, IsCommutativeRing, sum_below}
 use Rattle.lie_ring.specs.RingLemmas.{zero_add, mul_zero, zero_mul, add_mul, add_middle}
+
+-- a product above a number has a second factor
+pub factor_positive : (a b n : ℕ) → n < a * b → 0 < b
+factor_positive a zero n h = absurd (let never : ⊥ = omega (arith, h) in never)
+factor_positive a (suc b) n h = omega arith
 
 -- sums of equal terms are equal
 pub sum-same : {A : Type 0} (R : RingOn A) (n : ℕ) (f g : ℕ → A) → ((k : ℕ) → k < n → f k ≡ g k) → sum_below R n f ≡ sum_below R n g
@@ -92,3 +98,46 @@ module _ {A : Type 0} (R : RingOn A) (laws : IsCommutativeRing R) where
       sum-one_out n i f (λ k. R.zero) h p refl (λ k q r. sym (z k q r))
       ∙ ap (λ s. R.add s (f i)) (sum-zeros n (λ k. R.zero) (λ k q. refl))
       ∙ zero_add R laws (f i) (p i h)
+
+  -- a sum in two parts
+  pub sum-split : (m n : ℕ) (f : ℕ → A) → ((k : ℕ) → k < m + n → IsElem R (f k)) → sum_below R (m + n) f ≡ R.add (sum_below R m f) (sum_below R n (λ k. f (m + k)))
+  sum-split m zero f p =
+      let none : m + zero ≡ m = omega arith in
+      ap (λ k. sum_below R k f) none ∙ sym (laws.add_zero (sum_below R m f) (sum-elem m f (λ k h. p k (omega arith))))
+  sum-split m (suc n) f p =
+      let one_more : m + suc n ≡ suc (m + n) = omega arith in
+      ap (λ k. sum_below R k f) one_more
+      ∙ ap (λ s. R.add s (f (m + n))) (sum-split m n f (λ k h. p k (omega arith)))
+      ∙ laws.add_assoc (sum_below R m f) (sum_below R n (λ k. f (m + k))) (f (m + n))
+      (sum-elem m f (λ k h. p k (omega arith))) (sum-elem n (λ k. f (m + k)) (λ k h. p (m + k) (omega arith))) (p (m + n) (omega arith))
+
+  -- the sum over all pairs, the second number running first
+  pub sum-pairs : (m n : ℕ) (f : ℕ → ℕ → A) → ((a b : ℕ) → a < m → b < n → IsElem R (f a b)) → sum_below R (m * n) (λ k. f (k / n) (k % n)) ≡ sum_below R m (λ a. sum_below R n (f a))
+  sum-pairs zero n f p = let none : zero * n ≡ 0 = omega arith in ap (λ k. sum_below R k (λ k. f (k / n) (k % n))) none
+  sum-pairs (suc m) n f p =
+      let one_more : suc m * n ≡ m * n + n = omega arith in
+      ap (λ k. sum_below R k (λ k. f (k / n) (k % n))) one_more
+      ∙ sum-split (m * n) n (λ k. f (k / n) (k % n)) (λ k h.
+      let within : k < suc m * n = omega (arith, one_more, h) in
+      let some = factor_positive (suc m) n k within in
+      p (k / n) (k % n) (div_below k n (suc m) some within) (mod_below k n some))
+      ∙ ap₂ R.add (sum-pairs m n f (λ a b h k. p a b (omega arith) k))
+      (sum-same R n (λ b. f ((m * n + b) / n) ((m * n + b) % n)) (f m) (λ b h. ap₂ f (div-mul-add m n b h) (mod-mul-add m n b h)))
+
+  -- (sum of f k) (sum of g l) = sum of all f k g l
+  pub sum-product : (m n : ℕ) (f g : ℕ → A) → ((k : ℕ) → k < m → IsElem R (f k)) → ((k : ℕ) → k < n → IsElem R (g k)) →
+      sum_below R m (λ a. sum_below R n (λ b. R.mul (f a) (g b))) ≡ R.mul (sum_below R m f) (sum_below R n g)
+  sum-product m n f g p q =
+      sum-same R m _ (λ a. R.mul (f a) (sum_below R n g)) (λ a h. sym (mul-sum n (f a) g (p a h) q))
+      ∙ sym (sum-mul m f (sum_below R n g) (sum-elem n g q) p)
+
+  -- a sum of products with sums, on the left and on the right
+  pub sum_products-assoc : (m n : ℕ) (f : ℕ → A) (g : ℕ → ℕ → A) (h : ℕ → A)
+      → ((l : ℕ) → l < m → IsElem R (f l)) → ((l k : ℕ) → l < m → k < n → IsElem R (g l k)) → ((k : ℕ) → k < n → IsElem R (h k))
+      → sum_below R n (λ k. R.mul (sum_below R m (λ l. R.mul (f l) (g l k))) (h k)) ≡ sum_below R m (λ l. R.mul (f l) (sum_below R n (λ k. R.mul (g l k) (h k))))
+  sum_products-assoc m n f g h p q r =
+      sum-same R n _ (λ k. sum_below R m (λ l. R.mul (f l) (R.mul (g l k) (h k)))) (λ k b.
+      sum-mul m (λ l. R.mul (f l) (g l k)) (h k) (r k b) (λ l a. laws.mul_elem (f l) (g l k) (p l a) (q l k a b))
+      ∙ sum-same R m _ _ (λ l a. laws.mul_assoc (f l) (g l k) (h k) (p l a) (q l k a b) (r k b)))
+      ∙ sum-swap n m (λ k l. R.mul (f l) (R.mul (g l k) (h k))) (λ k l b a. laws.mul_elem (f l) (R.mul (g l k) (h k)) (p l a) (laws.mul_elem (g l k) (h k) (q l k a b) (r k b)))
+      ∙ sum-same R m _ _ (λ l a. sym (mul-sum n (f l) (λ k. R.mul (g l k) (h k)) (p l a) (λ k b. laws.mul_elem (g l k) (h k) (q l k a b) (r k b))))

@@ -6,7 +6,9 @@
 //! crates of their own. A ring is roomy if none of its calls is ever `Wide`.
 //!
 //! What follows from the laws stands in `specs/RingLemmas.antt`, `specs/SumLemmas.antt` and
-//! `specs/HomLemmas.antt`. The crate stands on `thiserror` alone.
+//! `specs/HomLemmas.antt`. Matrices over a ring are defined in `specs/Matrices.antt`; their laws
+//! stand in `specs/MatrixLaws.antt`, those of columns in `specs/MatrixColumns.antt`, and what a
+//! homomorphism does to a matrix in `specs/MatrixImages.antt`. The crate stands on `thiserror` alone.
 #![tactic(auto)]
 
 mod from_integers;

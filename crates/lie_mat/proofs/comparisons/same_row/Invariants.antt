@@ -1,5 +1,5 @@
 use Rattle.std.proofs.Common.{◌≡◌, ℕ, ◌<◌}
-use Rattle.lie_mat.specs.Matrices.{entry}
+use Rattle.lie_ring.specs.Matrices.{entry}
 use Rattle.lie_mat.proofs.comparisons.same_row.Given as goal
 
 abbrev pub invariant-loop-col : goal.invariant-loop-col

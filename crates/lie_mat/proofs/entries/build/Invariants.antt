@@ -1,5 +1,5 @@
 use Rattle.std.proofs.Common.{◌≡◌}
-use Rattle.lie_mat.specs.Matrices.{AllFit}
+use Rattle.lie_ring.specs.Matrices.{AllFit}
 use Rattle.lie_mat.specs.Parts.{partial_table}
 use Rattle.lie_mat.proofs.entries.build.Given as goal
 

@@ -1,7 +1,7 @@
 use Rattle.std.proofs.Common.{◌∙◌, sym, ap, subst, IfSome}
 use Rattle.std.specs.Option.{unwrap_or}
 use Rattle.lie_ring.specs.Rings.{Fits}
-use Rattle.lie_mat.specs.Matrices.{with_entry, AllFit}
+use Rattle.lie_ring.specs.Matrices.{with_entry, AllFit}
 use Rattle.lie_mat.specs.Parts.{partial_table}
 use Rattle.lie_mat.specs.PartLemmas.{partial-step, with_entry-fit}
 use Rattle.lie_mat.proofs.entries.fill_entry.Goals as goal

@@ -1,4 +1,4 @@
-use Rattle.lie_mat.specs.ImageLemmas.{image-product}
+use Rattle.lie_ring.specs.MatrixImages.{image-product}
 use Rattle.lie_mat.proofs.laws.image_of_product.Goals as goal
 
 pub returns : goal.returns

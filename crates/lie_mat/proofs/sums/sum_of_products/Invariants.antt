@@ -1,13 +1,18 @@
-use Rattle.std.proofs.Common.{◌≡◌, ◌≤◌}
+use Rattle.std.proofs.Common.{◌≡◌, ◌≤◌, ◌-◌}
 use Rattle.lie_ring.specs.Rings.{Fits, sum_below}
-use Rattle.lie_mat.specs.Matrices.{product_term, product_term_size, nat_sum_below}
+use Rattle.lie_ring.specs.Matrices.{product_term}
+use Rattle.lie_mat.specs.Wide.{product_term_size, nat_sum_below}
 use Rattle.lie_mat.proofs.sums.sum_of_products.Given as goal
 
-abbrev pub invariant-loop-k : goal.invariant-loop-k
-invariant-loop-k g l =
+abbrev pub invariant-loop-mid : goal.invariant-loop-mid
+invariant-loop-mid g l =
     let R = g.R.Ring.ring l.ring in
     record {
-      value : l.sum ≡ sum_below R l.k (product_term R l.first l.second l.row l.col);
+      within : l.from ≤ l.second.height;
+      value : l.sum ≡ sum_below R l.from (product_term R l.first l.second l.row l.col);
       fits : Fits R l.sum;
-      size : R.size l.sum ≤ nat_sum_below l.k (product_term_size R l.first l.second l.row l.col);
+      size : R.size l.sum ≤ nat_sum_below l.from (product_term_size R l.first l.second l.row l.col);
     }
+
+abbrev pub decreases-loop-mid : goal.decreases-loop-mid
+decreases-loop-mid g l = l.second.height - l.from

@@ -1,7 +1,7 @@
 use Rattle.std.proofs.Common.{pos, sym, subst, refl}
 use Rattle.lie_ring.specs.Integers.{integers}
 use Rattle.lie_ring.specs.IntegerLaws.{integers_ring}
-use Rattle.lie_mat.specs.Matrices.{AllFit}
+use Rattle.lie_ring.specs.Matrices.{AllFit}
 use Rattle.lie_mat.specs.PartLemmas.{zeros-fit}
 use Rattle.lie_mat.proofs.tests.square.Goals as goal
 

@@ -1,8 +1,8 @@
 use Rattle.std.proofs.Common.{◌≡◌, ◌∙◌, ◌<◌, sym, ap, arith, length}
 use Rattle.std.specs.Option.{unwrap_or}
-use Rattle.lie_mat.specs.Matrices.{entry}
+use Rattle.lie_ring.specs.Matrices.{entry}
 use Rattle.lie_mat.specs.Columns.{stored}
-use Rattle.lie_mat.specs.TableLemmas.{entry-matrix_of, stored-read, found, not_found}
+use Rattle.lie_mat.specs.ColumnLemmas.{entry-matrix_of, stored-read, found, not_found}
 use Rattle.lie_mat.proofs.mats.Mat.get.Given.{Over}
 use Rattle.lie_mat.proofs.mats.Mat.get.Goals.{After-get}
 use Rattle.lie_mat.proofs.mats.Mat.get.Goals as goal

@@ -1,6 +1,6 @@
 use Rattle.std.proofs.Common.{◌∙◌, sym, ap, ap₂}
-use Rattle.lie_mat.specs.Matrices.{table, entry, image}
-use Rattle.lie_mat.specs.ImageLemmas.{image-table}
+use Rattle.lie_ring.specs.Matrices.{table, entry, image}
+use Rattle.lie_ring.specs.MatrixLemmas.{image-table}
 use Rattle.lie_mat.proofs.mats.Mat.map.Goals as goal
 
 pub returns-in-Ok-clause-value : goal.returns-in-Ok-clause-value

@@ -1,6 +1,7 @@
 use Rattle.std.proofs.Common.{◌≡◌, sym, length, subst}
-use Rattle.lie_mat.specs.Matrices.{table, entry}
-use Rattle.lie_mat.specs.TableLemmas.{table-same, entry-matrix_of}
+use Rattle.lie_ring.specs.Matrices.{table, entry}
+use Rattle.lie_ring.specs.MatrixLemmas.{table-same}
+use Rattle.lie_mat.specs.ColumnLemmas.{entry-matrix_of}
 use Rattle.lie_mat.proofs.mats.Mat.rows.Goals as goal
 
 pub returns-clause-entries : goal.returns-clause-entries

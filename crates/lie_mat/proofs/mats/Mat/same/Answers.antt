@@ -1,6 +1,6 @@
 use Rattle.std.proofs.Common.{◌∙◌, sym, ap₂, refl, arith}
-use Rattle.lie_mat.specs.Matrices.{table, entry}
-use Rattle.lie_mat.specs.TableLemmas.{table-same}
+use Rattle.lie_ring.specs.Matrices.{table, entry}
+use Rattle.lie_ring.specs.MatrixLemmas.{table-same}
 use Rattle.lie_mat.proofs.mats.Mat.same.Goals as goal
 
 pub returns : goal.returns

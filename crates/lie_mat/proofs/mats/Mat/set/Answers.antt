@@ -6,9 +6,9 @@ use Rattle.std.specs.BTreeMap.{is_at}
 use Rattle.std.specs.Ordering.{nat_cmp}
 use Rattle.std.proofs.lemmas.Bool.{false≢true}
 use Rattle.lie_mat.specs.Columns.{stored}
-use Rattle.lie_mat.specs.Matrices.{with_entry, AllFit}
+use Rattle.lie_ring.specs.Matrices.{with_entry, AllFit}
 use Rattle.lie_mat.specs.PartLemmas.{with_entry-fit}
-use Rattle.lie_mat.specs.TableLemmas.{stored-read}
+use Rattle.lie_mat.specs.ColumnLemmas.{stored-read}
 use Rattle.lie_mat.specs.WriteLemmas.{kept-set, matrix-unchanged, matrix-written, changed-put}
 use Rattle.lie_mat.proofs.mats.Mat.set.Given.{Over}
 use Rattle.lie_mat.proofs.mats.Mat.set.Goals.{After-drop-zero}

@@ -1,5 +1,5 @@
 use Rattle.std.proofs.Common.{sym, subst}
-use Rattle.lie_mat.specs.Matrices.{AllFit}
+use Rattle.lie_ring.specs.Matrices.{AllFit}
 use Rattle.lie_mat.specs.PartLemmas.{zeros-fit}
 use Rattle.lie_mat.proofs.mats.Mat.zero.Goals as goal
 

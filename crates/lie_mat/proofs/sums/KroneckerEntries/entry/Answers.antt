@@ -1,8 +1,9 @@
 use Rattle.std.proofs.Common.{◌%◌, ◌/◌, sym, refl, subst}
 use Rattle.std.proofs.lemmas.Nat.{mod_below, div_below}
 use Rattle.lie_ring.specs.Rings.{Fits}
-use Rattle.lie_mat.specs.Matrices.{entry}
-use Rattle.lie_mat.proofs.Products.{absent, present, product-left, product-right, factor_positive}
+use Rattle.lie_ring.specs.Matrices.{entry}
+use Rattle.lie_ring.specs.SumLemmas.{factor_positive}
+use Rattle.lie_mat.proofs.Products.{absent, present, product-left, product-right}
 use Rattle.lie_mat.proofs.sums.KroneckerEntries.entry.Goals as goal
 
 pub returns-in-None-clause-value : goal.returns-in-None-clause-value

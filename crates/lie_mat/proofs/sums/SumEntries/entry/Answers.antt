@@ -1,5 +1,5 @@
 use Rattle.std.proofs.Common.{refl}
-use Rattle.lie_mat.specs.Matrices.{entry}
+use Rattle.lie_ring.specs.Matrices.{entry}
 use Rattle.lie_mat.proofs.Products.{absent, sum-none}
 use Rattle.lie_mat.proofs.sums.SumEntries.entry.Goals as goal
 
