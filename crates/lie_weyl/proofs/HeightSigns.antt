@@ -19,7 +19,8 @@ use Rattle.lie_weyl.proofs.Linearity.{turn, moved_turn}
 use Rattle.lie_weyl.proofs.Signs.{negative_from}
 use Rattle.lie_weyl.proofs.DescentLemmas.{IsLeastDescent}
 
-total-times : (k : ℤ) (x : Vector) → total (λ c. c) (times k x) ≡ k *ℤ total (λ c. c) x
+-- a multiple has the multiple of the sum
+pub total-times : (k : ℤ) (x : Vector) → total (λ c. c) (times k x) ≡ k *ℤ total (λ c. c) x
 total-times k [] = ring (k ∷ []) (num (pos 0)) (var 0 ⊗ num (pos 0)) refl
 total-times k (a ∷ x) = ap (λ t. k *ℤ a +ℤ t) (total-times k x) ∙ sym (mul-add k a (total (λ c. c) x))
 
@@ -44,7 +45,7 @@ total_within (a ∷ v) h =
     omega (arith, x, y, z)
 
 module _ (d : Roots) (loaded : IsLoaded d) where
-  height_negative : (r : Root) → IsRoot d.base r → ¬ IsPositive r → height r <ℤ pos 0
+  pub height_negative : (r : Root) → IsRoot d.base r → ¬ IsPositive r → height r <ℤ pos 0
   height_negative r p n =
       let h = height_positive d loaded (opposite r) (opposite_root d loaded r p) (opposite_positive r.coeffs (negative_from d loaded r p n)) in
       let e = total-times (negsuc 0) r.coeffs in

@@ -1,0 +1,193 @@
+-- A datum has one answer of `load`, want of memory aside: its cases exclude one another.
+use Rattle.std.proofs.Common.{◌≡◌, ℕ, zero, suc, ◌+◌, ◌*◌, ◌<◌, ℤ, pos, negsuc, neg_ℤ, ◌*ℤ◌, List, [], ◌∷◌, length, Option, Some, slice_get, Ok, Err, refl, sym, ap, subst, ◌∙◌, arith, ◌⊎◌, inl, inr, ⊎_elim}
+use Rattle.std.proofs.lemmas.Int.{ints}
+use Rattle.std.specs.List.{AllZip}
+use Rattle.lie_datum.specs.Vectors.{Vector, plus, times}
+use Rattle.lie_datum.specs.Numbers.{place}
+use Rattle.lie_datum.specs.RootList.{Roots, IsLoaded, IsNumber}
+use Rattle.lie_datum.proofs.Entries.{within_or_past}
+use Rattle.lie_datum.proofs.NumberLemmas.{place_within}
+use Rattle.lie_datum.proofs.SignedRoots.{same_place}
+use Rattle.lie_const.specs.declared.term.Term.{Term}
+use Rattle.lie_const.specs.declared.faults.ConstFault.TheVariants.{NoMemory, Constant, Fraction}
+use Rattle.lie_const.specs.StructureConstants.{Table, coeffs_of, Place, Precedes, IsForced, HasSigns, HoldsAt, StandsFor, IsFirstFailure}
+use Rattle.lie_const.specs.CommutatorTerms.{chain, sign, factorial, coefficient, IsValue, IsFraction, IsPair, IsTerm, AreTerms, IsFirstFraction, term_exponents, value_at, number_of}
+use Rattle.lie_const.specs.ConstantTables.{ConstantTable, value_of, terms_of, LoadsOneWay}
+use Rattle.lie_base.proofs.RingSolver.{ring, var, neg, ◌⊗◌}
+use Rattle.lie_const.proofs.PlaceLemmas.{compare_places, Precedes-trans, pair_sum}
+use Rattle.lie_const.proofs.FoundRoots.{number_of_or}
+use Rattle.lie_const.proofs.ChainLemmas.{value_absent_left, value_absent_right, value_is, value_opposite, equal_or}
+use Rattle.lie_const.proofs.Norms.{cancel}
+use Rattle.lie_const.proofs.ForcedLemmas.{agree_before, forced_same}
+use Rattle.lie_const.proofs.PutLemmas.{IsSameEquation, one_equation, forced_pair}
+use Rattle.lie_const.proofs.Decisions.{string_exists}
+use Rattle.lie_const.proofs.Unique.{unique}
+use Rattle.lie_const.proofs.TermLemmas.{valued}
+
+term_eq : (t t' : Term) → t.i ≡ t'.i → t.j ≡ t'.j → t.root ≡ t'.root → t.value ≡ t'.value → t ≡ t'
+term_eq t t' a b c e =
+    let make : ℕ → ℕ → ℤ → ℤ → Term = λ i j root value. record { i = i; j = j; root = root; value = value } in
+    ap (λ x. make x t.j t.root t.value) a ∙ ap (λ x. make t'.i x t.root t.value) b ∙ ap (λ x. make t'.i t'.j x t.value) c ∙ ap (make t'.i t'.j t'.root) e
+
+factorial_positive : (n : ℕ) → 0 < factorial n
+factorial_positive zero = omega arith
+factorial_positive (suc n) = let h = factorial_positive n in product (factorial n) h
+  where
+    product : (m : ℕ) → 0 < m → 0 < suc n * m
+    product m l = omega (arith, l)
+
+-- a fraction has a number above 0 below its line
+below_positive : (d : Roots) (n : Table) (u v : Vector) (i j : ℕ) → 0 < (coefficient d n u v i j).below
+below_positive d n u v i (suc zero) = factorial_positive i
+below_positive d n u v (suc zero) zero = factorial_positive 0
+below_positive d n u v (suc zero) (suc (suc j)) = factorial_positive (suc (suc j))
+below_positive d n u v (suc (suc (suc zero))) (suc (suc zero)) = omega arith
+below_positive d n u v (suc (suc zero)) (suc (suc (suc zero))) = omega arith
+below_positive d n u v zero zero = omega arith
+below_positive d n u v zero (suc (suc j)) = omega arith
+below_positive d n u v (suc (suc zero)) zero = omega arith
+below_positive d n u v (suc (suc zero)) (suc (suc zero)) = omega arith
+below_positive d n u v (suc (suc zero)) (suc (suc (suc (suc j)))) = omega arith
+below_positive d n u v (suc (suc (suc zero))) zero = omega arith
+below_positive d n u v (suc (suc (suc zero))) (suc (suc (suc j))) = omega arith
+below_positive d n u v (suc (suc (suc (suc i)))) zero = omega arith
+below_positive d n u v (suc (suc (suc (suc i)))) (suc (suc j)) = omega arith
+
+-- ---- the first failure is one, and none comes where a table stands
+module _ (d : Roots) (loaded : IsLoaded d) where
+  -- a table that holds up to the place of a failure excludes it
+  failure_excluded : (n : Table) (r s a e : ℤ) → (f : IsFirstFailure d r s a e) → HasSigns d n → ((c : Place) → Precedes c f.at → HoldsAt d n c) → HoldsAt d n f.at → ⊥
+  failure_excluded n r s a e f signs before here =
+      let same = forced_same d loaded n f.table signs f.signs f.at r s a e f.forced (agree_before d loaded n f.table signs f.signs f.at before f.before) in
+      let h = here r s a e same in
+      let z = pair_sum d loaded f.at r s (forced_pair d f.table f.at r s a e f.forced) in
+      let t = string_exists d loaded r s z.1.left z.1.right in
+      let g = f.fails t.0 t.1 t.2 in
+      ⊎_elim (λ k. g.0 (sym h.0 ∙ ap (λ v. v *ℤ a) k)) (λ k. g.1 (sym h.0 ∙ ap (λ v. v *ℤ a) k ∙ opposite (pos (t.0 + 1)) a)) (h.1 t.0 t.1 t.2)
+    where
+      opposite : (x y : ℤ) → neg_ℤ x *ℤ y ≡ neg_ℤ (x *ℤ y)
+      opposite x y = ring (x ∷ (y ∷ [])) (neg (var 0) ⊗ var 1) (neg (var 0 ⊗ var 1)) refl
+
+  none_fails : (n : Table) → StandsFor d n → (r s a e : ℤ) → IsFirstFailure d r s a e → ⊥
+  none_fails n stands r s a e f = failure_excluded n r s a e f stands.signs (λ c _. stands.values c) (stands.values f.at)
+
+  one_failure : (r s a e r' s' a' e' : ℤ) → IsFirstFailure d r s a e → IsFirstFailure d r' s' a' e' → IsSameEquation r s a e r' s' a' e'
+  one_failure r s a e r' s' a' e' f g = by (compare_places f.at g.at)
+    where
+      by : Precedes f.at g.at ⊎ (Precedes g.at f.at ⊎ (f.at ≡ g.at)) → IsSameEquation r s a e r' s' a' e'
+      by (inl l) = absurd (failure_excluded g.table r s a e f g.signs (λ c k. g.before c (Precedes-trans c f.at g.at k l)) (g.before f.at l))
+      by (inr (inl l)) = absurd (failure_excluded f.table r' s' a' e' g f.signs (λ c k. f.before c (Precedes-trans c g.at f.at k l)) (f.before g.at l))
+      by (inr (inr p)) =
+          let before : (c : Place) → Precedes c f.at → HoldsAt d g.table c = λ c k. g.before c (subst (Precedes c) p k) in
+          let there = subst (λ t. IsForced d g.table t r' s' a' e') (sym p) g.forced in
+          let same = forced_same d loaded f.table g.table f.signs g.signs f.at r' s' a' e' there (agree_before d loaded f.table g.table f.signs g.signs f.at f.before before) in
+          one_equation d loaded f.table f.at r s a e r' s' a' e' f.forced same
+
+  -- ---- terms are those of one table
+  module _ (m n : Table) (ms : StandsFor d m) (ns : StandsFor d n) where
+    value_same : (u v : Vector) → value_at d m u v ≡ value_at d n u v
+    value_same u v = ⊎_elim
+        (λ a. ⊎_elim (λ b. both a b) (λ b. value_absent_right d m u v b ∙ sym (value_absent_right d n u v b)) (number_of_or d loaded v))
+        (λ a. value_absent_left d m u v a ∙ sym (value_absent_left d n u v a)) (number_of_or d loaded u)
+      where
+        both : IsNumber d (number_of d u) × (coeffs_of d (number_of d u) ≡ u) → IsNumber d (number_of d v) × (coeffs_of d (number_of d v) ≡ v) → value_at d m u v ≡ value_at d n u v
+        both a b =
+            let x = number_of d u in
+            let y = number_of d v in
+            subst (λ t. value_at d m t v ≡ value_at d n t v) a.1
+            (⊎_elim (λ o. value_opposite d loaded m x y v a.0 b.0 b.1 o ∙ sym (value_opposite d loaded n x y v a.0 b.0 b.1 o))
+            (λ o. value_is d loaded m x y v a.0 b.0 b.1 o ∙ unique d loaded m n ms ns x y a.0 b.0 o ∙ sym (value_is d loaded n x y v a.0 b.0 b.1 o)) (equal_or y (neg_ℤ x)))
+
+    chain_same : (u v : Vector) (i : ℕ) → chain d m u v i ≡ chain d n u v i
+    chain_same u v zero = refl
+    chain_same u v (suc i) = ap (λ t. t *ℤ value_at d m u (plus (times (pos i) u) v)) (chain_same u v i) ∙ ap (λ t. chain d n u v i *ℤ t) (value_same u (plus (times (pos i) u) v))
+
+    coefficient_same : (u v : Vector) (i j : ℕ) → coefficient d m u v i j ≡ coefficient d n u v i j
+    coefficient_same u v i (suc zero) = ap (λ t. record { above = t; below = factorial i }) (chain_same u v i)
+    coefficient_same u v (suc zero) zero = ap (λ t. record { above = sign 0 *ℤ t; below = factorial 0 }) (chain_same v u 0)
+    coefficient_same u v (suc zero) (suc (suc j)) = ap (λ t. record { above = sign (suc (suc j)) *ℤ t; below = factorial (suc (suc j)) }) (chain_same v u (suc (suc j)))
+    coefficient_same u v (suc (suc (suc zero))) (suc (suc zero)) = ap (λ t. record { above = t; below = 6 }) (chain_same (plus u v) u 2)
+    coefficient_same u v (suc (suc zero)) (suc (suc (suc zero))) = ap (λ t. record { above = negsuc 1 *ℤ t; below = 6 }) (chain_same (plus v u) v 2)
+    coefficient_same u v zero zero = refl
+    coefficient_same u v zero (suc (suc j)) = refl
+    coefficient_same u v (suc (suc zero)) zero = refl
+    coefficient_same u v (suc (suc zero)) (suc (suc zero)) = refl
+    coefficient_same u v (suc (suc zero)) (suc (suc (suc (suc j)))) = refl
+    coefficient_same u v (suc (suc (suc zero))) zero = refl
+    coefficient_same u v (suc (suc (suc zero))) (suc (suc (suc j))) = refl
+    coefficient_same u v (suc (suc (suc (suc i)))) zero = refl
+    coefficient_same u v (suc (suc (suc (suc i)))) (suc (suc j)) = refl
+
+    fraction_same : (r s : ℤ) (e : ℕ × ℕ) → IsFraction d m r s e → IsFraction d n r s e
+    fraction_same r s e f c h = f c (subst (IsValue c) (sym (coefficient_same (coeffs_of d r) (coeffs_of d s) e.0 e.1)) h)
+
+    term_same : (r s : ℤ) (e : ℕ × ℕ) (t t' : Term) → IsTerm d m r s e t → IsTerm d n r s e t' → t ≡ t'
+    term_same r s e t t' p q =
+        let c = coefficient d m (coeffs_of d r) (coeffs_of d s) e.0 e.1 in
+        let there = subst (IsValue t'.value) (sym (coefficient_same (coeffs_of d r) (coeffs_of d s) e.0 e.1)) q.value in
+        term_eq t t' (p.i ∙ sym q.i) (p.j ∙ sym q.j) (p.root ∙ sym q.root)
+        (cancel t.value t'.value (pos c.below) (let l = below_positive d m (coeffs_of d r) (coeffs_of d s) e.0 e.1 in omega (arith, ints, l)) (p.value ∙ sym there))
+
+    terms_same : (r s : ℤ) (es : List (ℕ × ℕ)) (ts ts' : List Term) → AllZip (IsTerm d m r s) es ts → AllZip (IsTerm d n r s) es ts' → ts ≡ ts'
+    terms_same r s [] [] [] h g = refl
+    terms_same r s [] (t ∷ ts) ts' h g = absurd h
+    terms_same r s [] [] (t' ∷ ts') h g = absurd g
+    terms_same r s (e ∷ es) [] ts' h g = absurd h
+    terms_same r s (e ∷ es) (t ∷ ts) [] h g = absurd g
+    terms_same r s (e ∷ es) (t ∷ ts) (t' ∷ ts') h g = let a = term_same r s e t t' h.0 g.0 in let b = terms_same r s es ts ts' h.1 g.1 in cc
+
+    -- the first that is not whole is one
+    one_fraction : (r s r' s' : ℤ) (i j i' j' : ℕ) → IsFirstFraction d m r s i j → IsFirstFraction d n r' s' i' j' → (r ≡ r') × (s ≡ s') × ◌≡◌ {A = ℕ × ℕ} (i, j) (i', j')
+    one_fraction r s r' s' i j i' j' f g =
+        ⊎_elim (λ l. absurd (g.earlier_pairs r s f.term (i, j) f.pair (inl l) f.exponents (fraction_same r s (i, j) f.fraction)))
+        (λ l. ⊎_elim (λ k. absurd (f.earlier_pairs r' s' g.term (i', j') g.pair (inl k) g.exponents (back r' s' (i', j') g.fraction)))
+        (λ k. first (same_place (length d.positive) r r' (place_within d r f.pair.left) (place_within d r' g.pair.left) (omega (arith, l, k)))) (within_or_past (place (length d.positive) r') (place (length d.positive) r))) (within_or_past (place (length d.positive) r) (place (length d.positive) r'))
+      where
+        back : (r s : ℤ) (e : ℕ × ℕ) → IsFraction d n r s e → IsFraction d m r s e
+        back r s e f c h = f c (subst (IsValue c) (coefficient_same (coeffs_of d r) (coeffs_of d s) e.0 e.1) h)
+
+        third : (p : r ≡ r') (q : s ≡ s') → ◌≡◌ {A = ℕ × ℕ} (i, j) (i', j')
+        third p q =
+            let there : slice_get (term_exponents d r s) g.term ≡ Some (i', j') = ap (λ t. slice_get (term_exponents d t s) g.term) p ∙ ap (λ t. slice_get (term_exponents d r' t) g.term) q ∙ g.exponents in
+            let here : slice_get (term_exponents d r' s') f.term ≡ Some (i, j) = ap (λ t. slice_get (term_exponents d t s') f.term) (sym p) ∙ ap (λ t. slice_get (term_exponents d r t) f.term) (sym q) ∙ f.exponents in
+            ⊎_elim (λ l. absurd (g.earlier_terms f.term (i, j) l here (subst (λ t. IsFraction d n t s' (i, j)) p (subst (λ t. IsFraction d n r t (i, j)) q (fraction_same r s (i, j) f.fraction)))))
+            (λ l. ⊎_elim (λ k. absurd (f.earlier_terms g.term (i', j') k there (subst (λ t. IsFraction d m t s (i', j')) (sym p) (subst (λ t. IsFraction d m r' t (i', j')) (sym q) (back r' s' (i', j') g.fraction)))))
+            (λ k. (let e : f.term ≡ g.term = omega (arith, l, k) in let w = sym f.exponents ∙ ap (slice_get (term_exponents d r s)) e ∙ there in some_same (i, j) (i', j') w)) (within_or_past g.term f.term)) (within_or_past f.term g.term)
+          where
+            some_same : (a b : ℕ × ℕ) → ◌≡◌ {A = Option (ℕ × ℕ)} (Some a) (Some b) → a ≡ b
+            some_same a b e = cc
+
+        second : (p : r ≡ r') → place (length d.positive) s ≡ place (length d.positive) s' → (r ≡ r') × (s ≡ s') × ◌≡◌ {A = ℕ × ℕ} (i, j) (i', j')
+        second p e = let q = same_place (length d.positive) s s' (place_within d s f.pair.right) (place_within d s' g.pair.right) e in (p, q, third p q)
+
+        first : r ≡ r' → (r ≡ r') × (s ≡ s') × ◌≡◌ {A = ℕ × ℕ} (i, j) (i', j')
+        first p =
+            ⊎_elim (λ l. absurd (g.earlier_pairs r s f.term (i, j) f.pair (inr (p, l)) f.exponents (fraction_same r s (i, j) f.fraction)))
+            (λ l. ⊎_elim (λ k. absurd (f.earlier_pairs r' s' g.term (i', j') g.pair (inr (sym p, k)) g.exponents (back r' s' (i', j') g.fraction)))
+            (λ k. second p (omega (arith, l, k))) (within_or_past (place (length d.positive) s') (place (length d.positive) s))) (within_or_past (place (length d.positive) s) (place (length d.positive) s'))
+
+  -- a whole table has no fraction
+  none_fractured : (c : ConstantTable) (n : Table) (r s : ℤ) (i j : ℕ) → StandsFor d (value_of c) → ((r s : ℤ) → IsPair d r s → AreTerms d (value_of c) r s (terms_of c r s)) → StandsFor d n → IsFirstFraction d n r s i j → ⊥
+  none_fractured c n r s i j stands terms ns f =
+      valued d (value_of c) r s (term_exponents d r s) (terms_of c r s) f.term (i, j) (terms r s f.pair) f.exponents (fraction_same n (value_of c) ns stands r s (i, j) f.fraction)
+
+pub loads_one_way : LoadsOneWay
+loads_one_way d (Ok c) (Ok c') loaded h g p q = record {
+  positive = h.0 ∙ sym g.0;
+  values = λ r s a b o. unique d loaded (value_of c) (value_of c') h.1 g.1 r s a b o;
+  terms = λ r s w. terms_same d loaded (value_of c) (value_of c') h.1 g.1 r s (term_exponents d r s) (terms_of c r s) (terms_of c' r s) (h.2 r s w) (g.2 r s w);
+}
+loads_one_way d x (Err NoMemory) loaded h g p q = absurd (q refl)
+loads_one_way d (Err NoMemory) y loaded h g p q = absurd (p refl)
+loads_one_way d (Ok c) (Err (Constant r s a e)) loaded h g p q = none_fails d loaded (value_of c) h.1 r s a e g
+loads_one_way d (Ok c) (Err (Fraction r s i j)) loaded h g p q = none_fractured d loaded c g.0 r s i j h.1 h.2 g.1 g.2
+loads_one_way d (Err (Constant r s a e)) (Ok c) loaded h g p q = none_fails d loaded (value_of c) g.1 r s a e h
+loads_one_way d (Err (Fraction r s i j)) (Ok c) loaded h g p q = none_fractured d loaded c h.0 r s i j g.1 g.2 h.1 h.2
+loads_one_way d (Err (Constant r s a e)) (Err (Constant r' s' a' e')) loaded h g p q =
+    let w = one_failure d loaded r s a e r' s' a' e' h g in
+    ap (λ t. Constant t s a e) w.left ∙ ap (λ t. Constant r' t a e) w.right ∙ ap (λ t. Constant r' s' t e) w.factor ∙ ap (λ t. Constant r' s' a' t) w.value
+loads_one_way d (Err (Constant r s a e)) (Err (Fraction r' s' i j)) loaded h g p q = absurd (none_fails d loaded g.0 g.1 r s a e h)
+loads_one_way d (Err (Fraction r s i j)) (Err (Constant r' s' a e)) loaded h g p q = absurd (none_fails d loaded h.0 h.1 r' s' a e g)
+loads_one_way d (Err (Fraction r s i j)) (Err (Fraction r' s' i' j')) loaded h g p q =
+    let w = one_fraction d loaded h.0 g.0 h.1 g.1 r s r' s' i j i' j' h.2 g.2 in
+    ap (λ t. Fraction t s i j) w.0 ∙ ap (λ t. Fraction r' t i j) w.1 ∙ ap (λ (t : ℕ × ℕ). Fraction r' s' t.0 t.1) w.2

@@ -1,0 +1,10 @@
+pub mod StructureConstants
+pub mod CommutatorTerms
+pub mod ConstantTables
+pub mod Filling
+pub mod TermFilling
+pub mod Layout
+pub mod Modules
+pub mod Adjoint
+pub mod Signs
+pub mod Braids
