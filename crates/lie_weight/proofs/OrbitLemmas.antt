@@ -1,0 +1,44 @@
+-- What the growth of an orbit says of its size and its weights.
+use Rattle.std.proofs.Common.{◌≡◌, ◌-◌, ◌≤◌, List, [], length, get_or, refl, sym, subst, arith, unsigned_abs, Err}
+use Rattle.std.specs.List.{All}
+use Rattle.lie_datum.specs.Vectors.{Vector}
+use Rattle.lie_datum.specs.RootDatum.{IsWithin}
+use Rattle.lie_datum.specs.RootList.{Roots}
+use Rattle.lie_weight.specs.Orbits.{IsReached, IsOrbit, IsOrbitSize, IsMinuscule}
+use Rattle.lie_weight.specs.Growth.{IsGrowing, IsGrown, first_weight}
+use Rattle.lie_weight.specs.OrbitFaults.{IsHeavyWeight, AreLight, LoadsOrbit}
+use Rattle.lie_weight.specs.Completion.{IsConjugateFault}
+use Rattle.lie_weight.specs.declared.faults.ModuleFault.{ModuleFault}
+use Rattle.lie_weight.specs.declared.faults.ModuleFault.TheVariants.{NoMemory, NotMinuscule, Wide, Heavy, Huge}
+use Rattle.lie_const.specs.Modules.{Module}
+use Rattle.lie_const.specs.Signs.{Signs}
+use Rattle.lie_weight.proofs.GrowthLemmas.{grown_whole}
+
+-- weights that are small are not heavy
+light_weight : (x : Vector) → IsWithin 1000000 x → ¬ IsHeavyWeight x
+light_weight x h a = let m = subst (λ t. unsigned_abs t ≤ 1000000) a.3 (h a.0 a.1 a.2) in let l = a.4 in absurd (omega (arith, m, l))
+
+pub are_light : (ws : List Vector) → length ws ≤ 300 → All (IsWithin 1000000) ws → AreLight ws
+are_light ws few small = record {
+  few = few;
+  light = λ a h. light_weight (get_or ws (a - 1) []) (small (a - 1) [] (let p = h.0 in let q = h.1 in omega (arith, p, q))) h.2;
+}
+
+-- the size of an orbit that has grown
+pub orbit_size : (d : Roots) (w : Vector) (ws : List Vector) → IsGrowing d ws → first_weight ws ≡ w → IsGrown d ws → IsOrbitSize d w (length ws)
+orbit_size d w ws g first grown = record {
+  ws = ws;
+  count = refl;
+  few = g.short;
+  distinct = g.distinct;
+  reached = λ x c. subst (λ t. IsReached d t x) first (g.reached x c);
+  whole = λ room x r. grown_whole d ws g (grown room) x (subst (λ t. IsReached d t x) (sym first) r);
+}
+
+-- why the module of an orbit is not completed
+pub fault_loads : (d : Roots) (eta : Signs) (w : Vector) (v : Module) (e : ModuleFault) → IsMinuscule d w → IsOrbit d w v.weights → AreLight v.weights → IsConjugateFault d eta v e → LoadsOrbit d eta w (Err e)
+fault_loads d eta w v NoMemory m o l h = tt
+fault_loads d eta w v (NotMinuscule r) m o l h = absurd h
+fault_loads d eta w v (Wide n) m o l h = absurd h
+fault_loads d eta w v (Heavy a) m o l h = absurd h
+fault_loads d eta w v (Huge r k) m o l h = (m, record { partial = v; weights = o; light = l; steps = h.0; completed = h.1; first = h.2 })

@@ -1,0 +1,201 @@
+-- The module of an orbit is determined by its weights: the completed matrices follow from the steps.
+use Rattle.std.proofs.Common.{◌≡◌, ◌≢◌, ℕ, zero, suc, ◌*◌, ◌<◌, ◌≤◌, ℤ, pos, negsuc, neg_ℤ, List, [], ◌∷◌, length, get_or, refl, sym, ap, subst, ◌∙◌, arith, ◌⊎◌, inl, inr, ⊎_elim, unsigned_abs}
+use Rattle.std.specs.List.{AllByRecursion}
+use Rattle.std.specs.List.Sorted.{IsStrictlySortedBy}
+use Rattle.std.specs.declared.cmp.Ordering.TheVariants.{Less, Equal}
+use Rattle.std.proofs.lemmas.Cmp.{tied_itself}
+use Rattle.lie_ring.specs.Integers.{integers}
+use Rattle.lie_ring.specs.Powers.{power}
+use Rattle.lie_ring.specs.Matrices.{Matrix, product, scaled, zero_matrix}
+use Rattle.lie_base.proofs.Members.{In, here, there}
+use Rattle.lie_datum.specs.Vectors.{Vector}
+use Rattle.lie_datum.specs.Numbers.{place, number_at}
+use Rattle.lie_datum.specs.RootDatum.{rank, IsSimpleIndex}
+use Rattle.lie_datum.specs.RootList.{Roots, IsNumber, IsLoaded}
+use Rattle.lie_datum.proofs.Entries.{within_or_past}
+use Rattle.lie_datum.proofs.ClosureLemmas.{in_from_contains, contains_from_in}
+use Rattle.lie_datum.proofs.NumberLemmas.{numbered_at}
+use Rattle.lie_const.specs.Modules.{Module, IsModule, dimension, divided_powers, divided_power, top, weyl_element, weyl_inverse}
+use Rattle.lie_const.specs.Signs.{Signs}
+use Rattle.lie_weight.specs.Orbits.{weight_cmp, IsOrbit}
+use Rattle.lie_weight.specs.OrbitModules.{step_matrix, StepsBy, HasSteps}
+use Rattle.lie_weight.specs.Conjugation.{absolute_height, IsLowering, conjugated, IsCompletedBelow, absolute_weyl, IsHugeMatrix, IsHuge}
+use Rattle.lie_weight.specs.Factors.{work_on, one_plus, sandwich}
+use Rattle.lie_weight.proofs.WeightLemmas.{simple_some}
+use Rattle.lie_weight.proofs.OrderLemmas.{weight_total}
+use Rattle.lie_weight.proofs.StepLemmas.{negative_some, weyl_is, inverse_is, absolute_is}
+use Rattle.lie_weight.proofs.CompletionLemmas.{lowered_below}
+use Rattle.lie_weight.proofs.LoweringLemmas.{lowering_exists}
+
+-- ---- one list of weights
+module _ (d : Roots) where
+  same_order : (x : Vector) → weight_cmp d x x ≡ Equal
+  same_order x = tied_itself (weight_total d) x
+
+  same_less : (x y : Vector) → weight_cmp d x y ≡ Less → weight_cmp d y x ≡ Less → ⊥
+  same_less x y e f = let g = (weight_total d).trans x y x e f in let h = same_order x in cc
+
+  -- two lists in order with the same members are one
+  same_list : (xs ys : List Vector) → IsStrictlySortedBy (weight_cmp d) xs → IsStrictlySortedBy (weight_cmp d) ys → ((x : Vector) → In x xs → In x ys) → ((x : Vector) → In x ys → In x xs) → xs ≡ ys
+  unfolding IsStrictlySortedBy
+  same_list [] [] s t h g = refl
+  same_list [] (y ∷ ys) s t h g = elim (g y (here refl)) [ ]
+  same_list (x ∷ xs) [] s t h g = elim (h x (here refl)) [ ]
+  same_list (x ∷ xs) (y ∷ ys) s t h g =
+      let e = heads (h x (here refl)) (g y (here refl)) in
+      let f = same_list xs ys s.1 t.1 (λ r p. tail r ys (h r (there p)) (λ q. above x xs s.0 r p (q ∙ sym e))) (λ r p. tail r xs (g r (there p)) (λ q. above y ys t.0 r p (q ∙ e))) in
+      cc
+    where
+      less_in : (z : Vector) (zs : List Vector) → AllByRecursion (λ w. weight_cmp d z w ≡ Less) zs → (r : Vector) → In r zs → weight_cmp d z r ≡ Less
+      less_in z [] a r p = elim p [ ]
+      less_in z (w ∷ zs) a r (here e) = ap (weight_cmp d z) e ∙ a.0
+      less_in z (w ∷ zs) a r (there p) = less_in z zs a.1 r p
+
+      above : (z : Vector) (zs : List Vector) → AllByRecursion (λ w. weight_cmp d z w ≡ Less) zs → (r : Vector) → In r zs → r ≡ z → ⊥
+      above z zs a r p e = let l = less_in z zs a r p in let q = same_order z in let k = ap (weight_cmp d z) e in cc
+
+      tail : (r : Vector) {w : Vector} (zs : List Vector) → In r (w ∷ zs) → (r ≡ w → ⊥) → In r zs
+      tail r zs (here e) n = absurd (n e)
+      tail r zs (there p) n = p
+
+      heads : In x (y ∷ ys) → In y (x ∷ xs) → x ≡ y
+      heads (here e) q = e
+      heads (there p) (here e) = sym e
+      heads (there p) (there q) = absurd (same_less x y (less_in x xs s.0 y q) (less_in y ys t.0 x p))
+
+  pub one_orbit : (w : Vector) (xs ys : List Vector) → IsOrbit d w xs → IsOrbit d w ys → xs ≡ ys
+  one_orbit w xs ys p q = same_list xs ys p.sorted q.sorted
+      (λ x m. in_from_contains ys x ((q.members x).1 ((p.members x).0 (contains_from_in xs x m)))) (λ x m. in_from_contains xs x ((p.members x).1 ((q.members x).0 (contains_from_in ys x m))))
+
+-- ---- a simple root keeps one matrix at most
+steps_single : (d : Roots) (v : Module) (q : ℤ) → IsModule d v → IsNumber d q → StepsBy d v q → top v q ≤ 1
+steps_single d v q shape n s = by (top v q) refl
+  where
+    by : (t : ℕ) → top v q ≡ t → t ≤ 1
+    by zero e = omega arith
+    by (suc zero) e = omega arith
+    by (suc (suc t)) e = absurd (shape.last q (suc t) n e (s.others (suc (suc t)) (omega arith)))
+
+-- a number of a simple root or its negative, or of another root
+simple_or_past : (d : Roots) (r : ℤ) → IsNumber d r → ((i : ℕ) × IsSimpleIndex d.base i × ((r ≡ pos i) ⊎ (r ≡ neg_ℤ (pos i)))) ⊎ (rank d.base < unsigned_abs r)
+simple_or_past d (pos zero) n = cc
+simple_or_past d (pos (suc k)) n = ⊎_elim (λ l. inr l) (λ l. inl (suc k, (omega arith, l), inl refl)) (within_or_past (rank d.base) (suc k))
+simple_or_past d (negsuc k) n = ⊎_elim (λ l. inr l) (λ l. inl (suc k, (omega arith, l), inr refl)) (within_or_past (rank d.base) (suc k))
+
+-- ---- two modules with the same weights and with steps
+module _ (d : Roots) (loaded : IsLoaded d) (v w : Module) (same : w.weights ≡ v.weights) (sv : HasSteps d v) (sw : HasSteps d w) where
+  size : dimension w ≡ dimension v
+  size = ap length same
+
+  step_same : (q : ℤ) → StepsBy d v q → StepsBy d w q → (k : ℕ) → 1 ≤ k → divided_power w q k ≡ divided_power v q k
+  step_same q a b zero l = absurd (omega (arith, l))
+  step_same q a b (suc zero) l = b.first ∙ ap (λ ws. step_matrix d ws q) same ∙ sym a.first
+  step_same q a b (suc (suc k)) l = b.others (suc (suc k)) (omega arith) ∙ ap (λ n. zero_matrix (pos 0) n n) size ∙ sym (a.others (suc (suc k)) (omega arith))
+
+  module _ (i : ℕ) (s : IsSimpleIndex d.base i) where
+    up_v : top v (pos i) ≤ 1
+    up_v = steps_single d v (pos i) sv.shape (simple_some d loaded i s) (sv.up i s)
+
+    up_w : top w (pos i) ≤ 1
+    up_w = steps_single d w (pos i) sw.shape (simple_some d loaded i s) (sw.up i s)
+
+    down_v : top v (neg_ℤ (pos i)) ≤ 1
+    down_v = steps_single d v (neg_ℤ (pos i)) sv.shape (negative_some d loaded i s) (sv.down i s)
+
+    down_w : top w (neg_ℤ (pos i)) ≤ 1
+    down_w = steps_single d w (neg_ℤ (pos i)) sw.shape (negative_some d loaded i s) (sw.down i s)
+
+    weyl_same : weyl_element integers w i ≡ weyl_element integers v i
+    weyl_same = weyl_is d w i up_w down_w (sw.up i s) (sw.down i s) ∙ ap (λ ws. sandwich (one_plus (pos 1) (step_matrix d ws (pos i))) (one_plus (negsuc 0) (step_matrix d ws (neg_ℤ (pos i))))) same ∙ sym (weyl_is d v i up_v down_v (sv.up i s) (sv.down i s))
+
+    inverse_same : weyl_inverse integers w i ≡ weyl_inverse integers v i
+    inverse_same = inverse_is d w i up_w down_w (sw.up i s) (sw.down i s) ∙ ap (λ ws. sandwich (one_plus (negsuc 0) (step_matrix d ws (pos i))) (one_plus (pos 1) (step_matrix d ws (neg_ℤ (pos i))))) same ∙ sym (inverse_is d v i up_v down_v (sv.up i s) (sv.down i s))
+
+    absolute_same : absolute_weyl w i ≡ absolute_weyl v i
+    absolute_same = absolute_is d w i up_w down_w (sw.up i s) (sw.down i s) ∙ ap (λ ws. sandwich (one_plus (pos 1) (step_matrix d ws (pos i))) (one_plus (pos 1) (step_matrix d ws (neg_ℤ (pos i))))) same ∙ sym (absolute_is d v i up_v down_v (sv.up i s) (sv.down i s))
+
+  -- completed below a height, they have the same matrices there
+  module _ (eta : Signs) (h : ℕ) (cv : IsCompletedBelow d eta v h) (cw : IsCompletedBelow d eta w h) where
+    conjugates_same : (i : ℕ) (r s : ℤ) (k : ℕ) → IsLowering d i r s → absolute_height d r < h → 1 ≤ k → divided_power w s k ≡ divided_power v s k → divided_power w r k ≡ divided_power v r k
+    conjugates_same i r s k l low one e =
+        cw r low i s k l one
+        ∙ ap (λ A. scaled integers (power integers (eta i s) k) (product integers (product integers A (divided_power w s k)) (weyl_inverse integers w i))) (weyl_same i l.index)
+        ∙ ap (λ B. scaled integers (power integers (eta i s) k) (product integers (product integers (weyl_element integers v i) (divided_power w s k)) B)) (inverse_same i l.index)
+        ∙ ap (λ E. scaled integers (power integers (eta i s) k) (conjugated v i E)) e
+        ∙ sym (cv r low i s k l one)
+
+    powers_below : (n : ℕ) (r : ℤ) (k : ℕ) → IsNumber d r → absolute_height d r < n → absolute_height d r < h → 1 ≤ k → divided_power w r k ≡ divided_power v r k
+    powers_below zero r k n l low one = absurd (omega (arith, l))
+    powers_below (suc m) r k n l low one =
+        ⊎_elim (λ x. ⊎_elim (λ e. subst (λ (q : ℤ). divided_power w q k ≡ divided_power v q k) (sym e) (step_same (pos x.0) (sv.up x.0 x.1) (sw.up x.0 x.1) k one))
+        (λ e. subst (λ (q : ℤ). divided_power w q k ≡ divided_power v q k) (sym e) (step_same (neg_ℤ (pos x.0)) (sv.down x.0 x.1) (sw.down x.0 x.1) k one)) x.2)
+        (λ past. (let e = lowering_exists d loaded r n past in
+        let b = lowered_below d loaded r e.0 e.1 e.2 in
+        conjugates_same e.0 r e.1 k e.2 low one (powers_below m e.1 k e.2.number (omega (arith, b, l)) (omega (arith, b, low)) one)))
+        (simple_or_past d r n)
+
+    pub powers_same : (r : ℤ) (k : ℕ) → IsNumber d r → absolute_height d r < h → 1 ≤ k → divided_power w r k ≡ divided_power v r k
+    powers_same r k n low one = powers_below (suc (absolute_height d r)) r k n (omega arith) low one
+
+    -- and the same work up to that height
+    pub huge_same : (r : ℤ) (k : ℕ) → absolute_height d r ≤ h → IsHuge d v r k → IsHuge d w r k
+    huge_same r k low x =
+        let i = x.index in
+        let s = x.lowered in
+        let b = lowered_below d loaded r i s x.lowering in
+        let e = powers_same s k x.lowering.number (omega (arith, b, low)) x.first in
+        record {
+          index = i;
+          lowered = s;
+          lowering = x.lowering;
+          first = x.first;
+          work = subst IsHugeMatrix (sym (ap (λ A. work_on A (divided_power w s k)) (absolute_same i x.lowering.index) ∙ ap (work_on (absolute_weyl v i)) e)) x.work;
+        }
+
+-- ---- lists of matrices
+-- two lists that agree at each place, where their ends are not the default, are one
+lists_same : (z : Matrix ℤ) (Ms Ns : List (Matrix ℤ)) → ((k : ℕ) → length Ms ≡ suc k → get_or Ms k z ≢ z) → ((k : ℕ) → length Ns ≡ suc k → get_or Ns k z ≢ z) → ((k : ℕ) → get_or Ms k z ≡ get_or Ns k z) → Ms ≡ Ns
+lists_same z [] [] p q h = refl
+lists_same z [] (N ∷ Ns) p q h = absurd (q (length Ns) refl (end z (N ∷ Ns) (length Ns) (λ k. sym (h k))))
+  where
+    end : (z : Matrix ℤ) (Ns : List (Matrix ℤ)) (k : ℕ) → ((k : ℕ) → get_or Ns k z ≡ z) → get_or Ns k z ≡ z
+    end z Ns k h = h k
+lists_same z (M ∷ Ms) [] p q h = absurd (p (length Ms) refl (h (length Ms)))
+lists_same z (M ∷ Ms) (N ∷ Ns) p q h =
+    let e = h zero in
+    let f = lists_same z Ms Ns (λ k l. p (suc k) (ap suc l)) (λ k l. q (suc k) (ap suc l)) (λ k. h (suc k)) in
+    cc
+
+places_same : (n : ℕ) (xs ys : List (List (Matrix ℤ))) → length xs ≡ n → length ys ≡ n → ((k : ℕ) → k < n → get_or xs k [] ≡ get_or ys k []) → xs ≡ ys
+places_same n [] [] p q h = refl
+places_same n [] (y ∷ ys) p q h = absurd (omega (arith, p, q))
+places_same n (x ∷ xs) [] p q h = absurd (omega (arith, p, q))
+places_same zero (x ∷ xs) (y ∷ ys) p q h = absurd (omega (arith, p))
+places_same (suc n) (x ∷ xs) (y ∷ ys) p q h =
+    let e = h zero (omega arith) in
+    let f = places_same n xs ys (omega (arith, p)) (omega (arith, q)) (λ k l. h (suc k) (omega (arith, l))) in
+    cc
+
+-- two modules with the same weights and the same matrices are one
+pub one_module : (d : Roots) (v w : Module) → IsModule d v → IsModule d w → w.weights ≡ v.weights → ((r : ℤ) (k : ℕ) → IsNumber d r → 1 ≤ k → divided_power w r k ≡ divided_power v r k) → w ≡ v
+one_module d v w sv sw same h =
+    let p : w.positive ≡ v.positive = sw.positive ∙ sym sv.positive in
+    let l = places_same (2 * length d.positive) w.powers v.powers sw.roots sv.roots (λ k m. at k m) in
+    let a : ◌≡◌ {A = Module} w (record { positive = v.positive; weights = w.weights; powers = w.powers }) = ap (λ (t : ℕ). record { positive = t; weights = w.weights; powers = w.powers }) p in
+    let b : ◌≡◌ {A = Module} (record { positive = v.positive; weights = w.weights; powers = w.powers }) (record { positive = v.positive; weights = v.weights; powers = w.powers }) = ap (λ (t : List Vector). record { positive = v.positive; weights = t; powers = w.powers }) same in
+    let c : ◌≡◌ {A = Module} (record { positive = v.positive; weights = v.weights; powers = w.powers }) v = ap (λ (t : List (List (Matrix ℤ))). record { positive = v.positive; weights = v.weights; powers = t }) l in
+    a ∙ b ∙ c
+  where
+    root_lists : (r : ℤ) → IsNumber d r → divided_powers w r ≡ divided_powers v r
+    root_lists r n =
+        let size = ap length same in
+        let z = zero_matrix (pos 0) (dimension v) (dimension v) in
+        lists_same z (divided_powers w r) (divided_powers v r)
+        (λ k e. subst (λ m. get_or (divided_powers w r) k (zero_matrix (pos 0) m m) ≢ zero_matrix (pos 0) m m) size (sw.last r k n e)) (λ k e. sv.last r k n e)
+        (λ k. subst (λ m. get_or (divided_powers w r) k (zero_matrix (pos 0) m m) ≡ get_or (divided_powers v r) k z) size (h r (suc k) n (omega arith)))
+
+    at : (k : ℕ) → k < 2 * length d.positive → get_or w.powers k [] ≡ get_or v.powers k []
+    at k m =
+        let q = numbered_at d k m in
+        let e = root_lists (number_at (length d.positive) k) q.number in
+        ap (λ t. get_or w.powers t []) (sym q.place ∙ ap (λ t. place t (number_at (length d.positive) k)) (sym sw.positive)) ∙ e ∙ sym (ap (λ t. get_or v.powers t []) (sym q.place ∙ ap (λ t. place t (number_at (length d.positive) k)) (sym sv.positive)))

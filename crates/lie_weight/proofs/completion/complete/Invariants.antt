@@ -1,0 +1,8 @@
+use Rattle.std.proofs.Common.{◌≡◌}
+use Rattle.lie_const.specs.Signs.{eta_of}
+use Rattle.lie_weight.specs.Completion.{IsPartly, AreAllFactors}
+use Rattle.lie_weight.proofs.completion.complete.Given as goal
+
+abbrev pub invariant-loop-height : goal.invariant-loop-height
+invariant-loop-height l =
+    IsPartly l.datum (eta_of l.signs) l.height 0 l.module × AreAllFactors l.datum l.module l.factors × (l.module.weights ≡ l.initial.module.weights)

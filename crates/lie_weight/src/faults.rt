@@ -1,0 +1,43 @@
+//! Why there is no module.
+
+ghost use Rattle.std.specs.Prelude.{◌≡◌};
+ghost use Rattle.lie_weight.specs.declared.faults.ModuleFault.TheVariants.{NoMemory};
+
+use lie_datum::RootId;
+use std::alloc::{AllocError, AllocFailed};
+use thiserror::Error;
+
+/// The first of these faults, in this order. `specs/OrbitFaults.antt` says when each one comes from an orbit.
+#[derive(Debug, PartialEq, Eq, Drop, Error)]
+pub enum ModuleFault {
+    #[error("out of memory")]
+    NoMemory,
+    /// The first root that pairs with the weight to more than 1, or to less than -1.
+    #[error("the weight pairs with the coroot {} to more than 1 or less than -1", .0.number())]
+    NotMinuscule(RootId),
+    /// The dimension is above the limit; it is the number, or 1,025 where it is larger.
+    #[error("there are {0} weights, or more where that is 1025")]
+    Wide(u64),
+    /// The first weight, counted from 1, with a coordinate above 1,000,000 in absolute value.
+    #[error("weight {0} has a coordinate above 1000000 in absolute value")]
+    Heavy(usize),
+    /// The first root and power whose conjugation could reach 2^126.
+    #[error("the matrix of root {} and power {} could reach 2^126", .0.number(), .1)]
+    Huge(RootId, u32),
+}
+
+impl From<AllocError> for ModuleFault {
+    ghost from_gives = { λ _ e. e ≡ NoMemory };
+
+    fn from(_e: AllocError) -> ModuleFault {
+        ModuleFault::NoMemory
+    }
+}
+
+impl<T: Drop> From<AllocFailed<T>> for ModuleFault {
+    ghost from_gives = { λ _ e. e ≡ NoMemory };
+
+    fn from(_e: AllocFailed<T>) -> ModuleFault {
+        ModuleFault::NoMemory
+    }
+}

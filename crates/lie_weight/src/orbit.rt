@@ -1,0 +1,69 @@
+//! The module of the orbit of a minuscule weight.
+
+ghost use Rattle.std.specs.Prelude.{◌≤◌, length};
+ghost use Rattle.lie_datum.specs.RootDatum.{IsWithin};
+ghost use Rattle.lie_const.specs.Signs.{IsSignTable, eta_of};
+ghost use Rattle.lie_weight.specs.Orbits.{IsMinuscule};
+ghost use Rattle.lie_weight.specs.OrbitFaults.{LoadsOrbit};
+
+use crate::completion::complete;
+use crate::faults::ModuleFault;
+use crate::growth::grown;
+use crate::levels::in_order;
+use crate::minuscule::first_heavy;
+use crate::modules::Module;
+use crate::stepped::{all_factors, stepped};
+use lie_const::Signs;
+use lie_datum::{Datum, Vector};
+use std::alloc::Global;
+
+/// An orbit of more weights makes no module.
+const LIMIT: usize = 300;
+
+impl Module {
+    /// The module of the orbit of `v`, a weight that pairs with each root to -1, 0 or 1.
+    ///
+    /// A basis vector stands for each weight of the orbit, by falling pairing with the sum of the
+    /// positive coroots, then the greater vector first.
+    pub fn orbit(
+        alloc: Global,
+        datum: &Datum,
+        signs: &Signs,
+        v: &Vector,
+    ) -> Result<Module, ModuleFault>
+        requires v { IsWithin 100 v.now }
+        requires signs { IsSignTable datum.now signs.now }
+        ensures { LoadsOrbit datum.now (eta_of signs.now) v.now result }
+    {
+        if let Some(r) = first_heavy(datum, v) {
+            return Err(ModuleFault::NotMinuscule(r));
+        }
+        Module::minuscule(alloc, datum, signs, v)
+    }
+
+    /// The module of the orbit of a minuscule weight.
+    fn minuscule(
+        alloc: Global,
+        datum: &Datum,
+        signs: &Signs,
+        v: &Vector,
+    ) -> Result<Module, ModuleFault>
+        requires v { IsWithin 100 v.now }
+        requires light { IsMinuscule datum.now v.now }
+        requires signs { IsSignTable datum.now signs.now }
+        ensures { LoadsOrbit datum.now (eta_of signs.now) v.now result }
+    {
+        let orbit = grown(alloc, datum, v)?;
+        let count = orbit.len();
+        if count > LIMIT {
+            return Err(ModuleFault::Wide(count as u64));
+        }
+        let weights = in_order(alloc, datum, orbit.as_slice())?;
+        let mut module = stepped(alloc, datum, weights)?;
+        let factors = all_factors(alloc, datum, &module)?;
+        match complete(alloc, datum, signs, &factors, &mut module) {
+            Ok(()) => Ok(module),
+            Err(fault) => Err(fault),
+        }
+    }
+}

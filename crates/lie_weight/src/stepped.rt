@@ -1,0 +1,115 @@
+//! The module of an orbit with the steps by the simple roots, and the factors that they make.
+
+ghost use Rattle.std.specs.Prelude.{◌≡◌, ◌≤◌, ◌<◌, ◌+◌, pos, IfOk, length};
+ghost use Rattle.std.specs.List.{All};
+ghost use Rattle.lie_datum.specs.RootDatum.{rank, vector, IsSimpleIndex, IsWithin};
+ghost use Rattle.lie_datum.specs.RootList.{IsNumber, root_of};
+ghost use Rattle.lie_const.specs.Modules.{dimension};
+ghost use Rattle.lie_weight.specs.Factors.{AreModuleFactors};
+ghost use Rattle.lie_weight.specs.Completion.{IsSingle, IsStepped, WritesSteps, AreAllFactors};
+
+use crate::factors::{Factors, step_factors};
+use crate::modules::Module;
+use crate::powers::kept;
+use crate::steps::step_matrix;
+use lie_datum::{Datum, RootId, Vector};
+use std::alloc::{AllocError, Global};
+
+/// Writes the steps by a root, simple or the negative of a simple root.
+fn write_steps(
+    alloc: Global,
+    datum: &Datum,
+    module: &mut Module,
+    root: RootId,
+) -> Result<(), AllocError>
+    requires number { IsNumber datum.now root }
+    requires near { IsWithin 100 (vector datum.now.base (root_of datum.now root)) }
+    requires small { All (IsWithin 1000000) module.old.weights }
+    requires some { 1 ≤ dimension module.old }
+    requires few { dimension module.old ≤ 300 }
+    requires single { IsSingle datum.now module.old }
+    ensures { IfOk result (λ _. WritesSteps datum.now module.old root module.new) }
+{
+    let matrix = step_matrix(alloc, datum, module.weights(), root)?;
+    let powers = kept(alloc, matrix)?;
+    module.set_powers(root, powers);
+    Ok(())
+}
+
+/// Writes the steps by the i-th simple root and by its negative, with i counted from 0.
+fn write_simple_steps(
+    alloc: Global,
+    datum: &Datum,
+    module: &mut Module,
+    i: usize,
+) -> Result<(), AllocError>
+    requires index { i < rank datum.now.base }
+    requires small { All (IsWithin 1000000) module.old.weights }
+    requires some { 1 ≤ dimension module.old }
+    requires few { dimension module.old ≤ 300 }
+    requires stepped { IsStepped datum.now i module.old }
+    ensures stepped { IfOk result (λ _. IsStepped datum.now (i + 1) module.new) }
+    ensures weights { IfOk result (λ _. module.new.weights ≡ module.old.weights) }
+{
+    datum.loaded();
+    let simple = RootId::at(i, datum.m());
+    write_steps(alloc, datum, module, simple)?;
+    write_steps(alloc, datum, module, simple.opposite())
+}
+
+/// The module with these weights and the steps by the simple roots.
+pub(crate) fn stepped(
+    alloc: Global,
+    datum: &Datum,
+    weights: Vec<Vector>,
+) -> Result<Module, AllocError>
+    requires small { All (IsWithin 1000000) weights.items }
+    requires some { 1 ≤ length weights.items }
+    requires few { length weights.items ≤ 300 }
+    ensures stepped { IfOk result (IsStepped datum.now (rank datum.now.base)) }
+    ensures weights { IfOk result (λ v. v.weights ≡ weights.items) }
+{
+    let mut module = Module::bare(alloc, datum.m(), weights)?;
+    for i in 0..datum.l() {
+        write_simple_steps(alloc, datum, &mut module, i)?;
+    }
+    Ok(module)
+}
+
+/// The factors of the i-th simple index, with i counted from 0.
+fn simple_factors(
+    alloc: Global,
+    datum: &Datum,
+    module: &Module,
+    i: usize,
+) -> Result<Factors, AllocError>
+    requires index { i < rank datum.now.base }
+    requires small { All (IsWithin 1000000) module.now.weights }
+    requires few { dimension module.now ≤ 300 }
+    requires stepped { IsStepped datum.now (rank datum.now.base) module.now }
+    ensures { IfOk result (AreModuleFactors module.now (i + 1)) }
+{
+    datum.loaded();
+    let simple = RootId::at(i, datum.m());
+    let up = step_matrix(alloc, datum, module.weights(), simple)?;
+    let down = step_matrix(alloc, datum, module.weights(), simple.opposite())?;
+    step_factors(alloc, &up, &down)
+}
+
+/// The factors of each simple index.
+pub(crate) fn all_factors(
+    alloc: Global,
+    datum: &Datum,
+    module: &Module,
+) -> Result<Vec<Factors>, AllocError>
+    requires small { All (IsWithin 1000000) module.now.weights }
+    requires few { dimension module.now ≤ 300 }
+    requires stepped { IsStepped datum.now (rank datum.now.base) module.now }
+    ensures { IfOk result (λ list. AreAllFactors datum.now module.now list.items) }
+{
+    let mut list = Vec::new(alloc);
+    for i in 0..datum.l() {
+        list.push(simple_factors(alloc, datum, module, i)?)?;
+    }
+    Ok(list)
+}
