@@ -23,4 +23,10 @@ pub use exceptional::{E_6, E_7, E_8, F_4, G_2};
 pub use named_datum::{NamedDatum, padded};
 
 #[cfg(test)]
+mod collection;
+#[cfg(test)]
+mod constants;
+#[cfg(test)]
+mod products;
+#[cfg(test)]
 mod root_data;

@@ -44,7 +44,7 @@ fn compare<const L: usize>(rt: &impl Abort, alloc: Global, name: &str, case: &Na
     assert_eq!(rt; datum.length2(short), case.short.1, "{name}");
 }
 
-fn load<const L: usize>(rt: &impl Abort, alloc: Global, case: &NamedDatum<L>) -> Datum
+pub(crate) fn load<const L: usize>(rt: &impl Abort, alloc: Global, case: &NamedDatum<L>) -> Datum
     requires { L ≤ 8 }
 {
     let roots = case.simple_roots(alloc).expect(rt, "memory");

@@ -1,6 +1,6 @@
 -- Joined words: an equivalence, kept under appending on both sides.
-use Rattle.std.proofs.lemmas.List.{append-nil}
-use Rattle.std.proofs.Common.{List, [], ◌∷◌, ◌++◌, refl, subst, append_assoc}
+use Rattle.std.proofs.lemmas.List.{append-nil, map-append}
+use Rattle.std.proofs.Common.{List, [], ◌∷◌, ◌++◌, map, refl, subst, append_assoc}
 use Rattle.lie_letters.specs.Chains.{StepBy, JoinedBy, forward, backward, same, next, IsChain}
 
 module _ {A : Type 0} {R : List A → List A → Type 0} where
@@ -62,6 +62,22 @@ module _ {A : Type 0} {R : List A → List A → Type 0} where
   chain_of same = ([], refl)
   chain_of (next {v = w} s d) = let (between, c) = chain_of d in (w ∷ between, (s, c))
 
+  -- and a list of the words between is a chain
   pub joined_by_chain : (u : List A) (between : List (List A)) (v : List A) → IsChain R u between v → JoinedBy R u v
   joined_by_chain u [] v c = subst (λ w. JoinedBy R u w) c same
   joined_by_chain u (w ∷ between) v c = next c.0 (joined_by_chain w between v c.1)
+
+-- letters carried to other letters, where each relation is carried to a chain
+module _ {A B : Type 0} {R : List A → List A → Type 0} {R' : List B → List B → Type 0} (h : A → B)
+    (respects : (l r : List A) → R l r → JoinedBy R' (map h l) (map h r)) where
+  inside : (p q l r : List A) → JoinedBy R' (map h l) (map h r) → JoinedBy R' (map h (p ++ (l ++ q))) (map h (p ++ (r ++ q)))
+  inside p q l r d = simp map-append (behind (map h p) (before (map h q) d))
+
+  step_carried : {u v : List A} → StepBy R u v → JoinedBy R' (map h u) (map h v)
+  step_carried (forward {l = l} {r = r} p q e) = inside p q l r (respects l r e)
+  step_carried (backward {l = l} {r = r} p q e) = inside p q r l (flip (respects l r e))
+
+  -- a chain is carried to a chain
+  pub carried : {u v : List A} → JoinedBy R u v → JoinedBy R' (map h u) (map h v)
+  carried same = same
+  carried (next s d) = trans (step_carried s) (carried d)

@@ -1,5 +1,5 @@
 -- Torus vectors by numbers and as elements, and the words of torus letters that the calls join.
-use Rattle.std.proofs.Common.{◌≡◌, ℕ, zero, suc, List, [], ◌∷◌, map, length, replicate, refl, sym, ◌∙◌, ap, ap₂, subst, arith}
+use Rattle.std.proofs.Common.{◌≡◌, ◌≢◌, ◌<◌, ℕ, zero, suc, List, [], ◌∷◌, map, length, replicate, refl, sym, ◌∙◌, ap, ap₂, subst, arith}
 use Rattle.std.proofs.Math.Facts.{eqb_no, no_eqb, yes_eqb}
 use Rattle.lie_base.specs.Below.{at_number, is_below}
 use Rattle.lie_field.specs.FiniteField.{FiniteField}
@@ -8,20 +8,33 @@ use Rattle.lie_field.specs.Elements.{NonZero, unit_one, unit_mul, unit_inv}
 use Rattle.lie_letters.specs.declared.letter.Letter.TheVariants.{H as CodeH}
 use Rattle.lie_letters.specs.Torus.{Torus, each_mul, torus_one, torus_mul, torus_inv}
 use Rattle.lie_letters.proofs.TorusLaws.{torus_mul_inv}
-use Rattle.lie_letters.specs.Setting.{FrameData, setting, dim}
+use Rattle.lie_letters.specs.Frames.{FrameData, setting, dim}
 use Rattle.lie_letters.specs.Letters.{H}
 use Rattle.lie_letters.specs.Relations.{Joined, S0-torus, S3}
-use Rattle.lie_letters.specs.Entries.{AreUnits, ones, times_each, inverses}
+use Rattle.lie_letters.specs.Entries.{IsUnit, AreUnits, ones, times_each, inverses}
 use Rattle.lie_letters.specs.Spelled.{numbers, JoinedSpelled}
 use Rattle.lie_letters.proofs.ChainLemmas.{by_relation, trans}
 
+-- a positive number is not 0
+pub not_zero : (a : ℕ) → 0 < a → a ≢ 0
+not_zero a p = omega (arith, p)
+
+-- the unit with a given number
+abbrev pub unit_of : (f : FiniteField) (a : ℕ) → IsUnit f a → NonZero f
+unit_of f a h = record { element = at_number (order f.given) a h.1; nonzero = no_eqb (not_zero a h.0) }
+
+-- the number of an element that is not 0
+pub IsUnit-number : (f : FiniteField) (a : NonZero f) → IsUnit f a.element.number
+IsUnit-number f a = (let h = eqb_no a.nonzero in omega (arith, h), is_below (order f.given) a.element)
+
 -- the units with given numbers
-units_of : (f : FiniteField) (t : List ℕ) → AreUnits f t → (ts : List (NonZero f)) × (numbers f ts ≡ t)
+pub units_of : (f : FiniteField) (t : List ℕ) → AreUnits f t → (ts : List (NonZero f)) × (numbers f ts ≡ t)
 units_of f [] h = ([], refl)
 units_of f (a ∷ t) h =
     let rest = units_of f t h.1 in
-    (record { element = at_number (order f.given) a h.0.1; nonzero = no_eqb (let p = h.0.0 in omega (arith, p)) } ∷ rest.0, ap (λ w. a ∷ w) rest.1)
+    (unit_of f a h.0 ∷ rest.0, ap (λ w. a ∷ w) rest.1)
 
+-- as many numbers as units
 pub length-numbers : (f : FiniteField) (t : List (NonZero f)) → length (numbers f t) ≡ length t
 length-numbers f [] = refl
 length-numbers f (a ∷ t) = ap suc (length-numbers f t)
@@ -29,7 +42,7 @@ length-numbers f (a ∷ t) = ap suc (length-numbers f t)
 -- the numbers of elements that are not 0
 pub AreUnits-numbers : (f : FiniteField) (t : List (NonZero f)) → AreUnits f (numbers f t)
 AreUnits-numbers f [] = tt
-AreUnits-numbers f (a ∷ t) = ((let h = eqb_no a.nonzero in omega (arith, h), is_below (order f.given) a.element), AreUnits-numbers f t)
+AreUnits-numbers f (a ∷ t) = (IsUnit-number f a, AreUnits-numbers f t)
 
 -- a torus vector of the frame with given numbers
 pub torus_of : (f : FrameData) (t : List ℕ) → AreUnits f.field t → dim f ≡ length t → (x : Torus f.field (dim f)) × (numbers f.field x.entries ≡ t)

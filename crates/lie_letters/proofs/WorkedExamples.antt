@@ -6,7 +6,7 @@ use Rattle.lie_field.specs.Polynomials.{residues}
 use Rattle.lie_letters.specs.declared.letter.Letter.{Letter}
 use Rattle.lie_letters.specs.declared.letter.Letter.TheVariants.{H}
 use Rattle.lie_letters.specs.Entries.{AreUnits, times_each, inverses}
-use Rattle.lie_letters.specs.Setting.{FrameData}
+use Rattle.lie_letters.specs.Frames.{FrameData}
 use Rattle.lie_letters.specs.Spelled.{JoinedSpelled, reversed}
 use Rattle.lie_letters.proofs.CallerLemmas.{JoinedSpelled-refl, JoinedSpelled-trans, JoinedSpelled-over, torus_letters_decide, ones_joined, product_joined}
 
@@ -46,7 +46,11 @@ a_reversed_word = refl
 
 -- the torus of one coordinate over the field of five
 line : FrameData
-line = record { field = five; axes = 1 }
+line = record {
+  field = five;
+  datum = record { base = record { dim = 1; roots = []; coroots = [] }; positive = [] };
+  constants = record { positive = 0; values = []; terms = [] };
+}
 
 units : (a : ℕ) → 0 < a → a < 5 → AreUnits five (a ∷ [])
 unfolding five order degree

@@ -1,9 +1,12 @@
 //! Torus vectors: one to eight elements that are not 0.
-ghost use Rattle.std.specs.Prelude.{◌≡◌, ◌<◌, ◌≤◌, ◌-◌, ℕ, [], ◌∷◌, length, take, slice_index, MatchOption};
-ghost use Rattle.lie_field.specs.Quotient.{order};
-ghost use Rattle.lie_letters.specs.Entries.{AreUnits, AreElements, IsTorusVector, IsNoVector, ones, times_each, inverses};
+ghost use Rattle.std.specs.Prelude.{◌≡◌, ◌≢◌, ◌<◌, ◌≤◌, ◌-◌, ℕ, [], ◌∷◌, length, map, take, slice_index, pos, MatchOption};
+ghost use Rattle.lie_field.specs.Quotient.{order, power_int};
+ghost use Rattle.lie_datum.specs.RootDatum.{IsSimpleIndex, simple, covector};
+ghost use Rattle.lie_datum.specs.RootList.{IsNumber, root_of};
+ghost use Rattle.lie_letters.specs.Entries.{IsUnit, AreUnits, AreElements, IsTorusVector, IsNoVector, ones, times_each, inverses, character, cocharacter, reflected};
 
 use crate::letter::Letter;
+use lie_datum::{Datum, RootId, Vector};
 use lie_field::{Fe, Field};
 use std::marker::Model;
 
@@ -56,8 +59,34 @@ fn invert(field: &Field, a: &mut [Fe])
     }
 }
 
+// The powers of `a` with these exponents.
+fn powers(field: &Field, a: Fe, exponents: &Vector) -> [Fe; 8]
+    requires not_zero { a ≢ 0 }
+    requires below { a < order field.now.given }
+    ensures { result ≡ map (λ c. power_int field.now.given a c) exponents.now }
+{
+    let mut powers = [a; 8];
+    for j in 0..8 {
+        powers[j] = field.pow(a, exponents[j]);
+    }
+    powers
+}
+
+// The number of the simple root a_i.
+fn simple_root(datum: &Datum, i: usize) -> RootId
+    requires { IsSimpleIndex datum.now.base i }
+    ensures number { IsNumber datum.now result }
+    ensures root { root_of datum.now result ≡ simple i }
+{
+    datum.loaded();
+    match datum.id(i as i32) {
+        Some(r) => r,
+        None => unreachable!(),
+    }
+}
+
 impl Torus {
-    ghost use Rattle.lie_letters.specs.Setting.{FrameData, dim};
+    ghost use Rattle.lie_letters.specs.Frames.{FrameData, dim};
     ghost use Rattle.lie_letters.specs.Spelled.{JoinedSpelled};
 
     /// The vector of d ones.
@@ -128,6 +157,49 @@ impl Torus {
         let mut entries = self.entries;
         invert(field, &mut entries[..self.d]);
         Torus { entries, d: self.d }
+    }
+
+    /// `v(t)`: the product of the powers `t_j^(v_j)` of the entries.
+    pub fn char_of(&self, field: &Field, v: &Vector) -> Fe
+        requires { AreUnits field.now self.now }
+        ensures value { result ≡ character field.now self.now v.now }
+        ensures unit { IsUnit field.now result }
+    {
+        let entries = self.entries();
+        let mut value = one_of(field);
+        for j in 0..entries.len() {
+            value = field.mul(value, field.pow(entries[j], v[j]));
+        }
+        value
+    }
+
+    /// The coroot of r at an element that is not 0: the vector of its powers, whose exponents are the
+    /// coordinates of the coroot in Y.
+    pub fn coroot(field: &Field, datum: &Datum, r: RootId, t: Fe) -> Torus
+        requires not_zero { t ≢ 0 }
+        requires below { t < order field.now.given }
+        requires number { IsNumber datum.now r }
+        ensures { result ≡ cocharacter field.now datum.now.base.dim (covector datum.now.base (root_of datum.now r)) t }
+    {
+        datum.loaded();
+        Torus {
+            entries: powers(field, t, datum.coroot(r)),
+            d: datum.d(),
+        }
+    }
+
+    /// The simple reflection s_i, which `n_i` makes of a torus vector; `i` counts from 1.
+    pub fn reflect(&self, field: &Field, datum: &Datum, i: usize) -> Torus
+        requires units { AreUnits field.now self.now }
+        requires long { datum.now.base.dim ≡ length self.now }
+        requires index { IsSimpleIndex datum.now.base i }
+        ensures { result ≡ reflected field.now datum.now.base i self.now }
+    {
+        datum.loaded();
+        let r = simple_root(datum, i);
+        let a = self.char_of(field, datum.root(r));
+        let divisor = Torus::coroot(field, datum, r, a);
+        self.mul(field, &divisor.inv(field))
     }
 
     // The same vector once more.

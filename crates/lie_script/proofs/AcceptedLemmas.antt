@@ -1,5 +1,5 @@
 -- What holds of the lines that pass their checks.
-use Rattle.std.proofs.Common.{◌≡◌, ℕ, ◌+◌, true, List, [], ◌∷◌, length, ℤ, pos, nat_abs, ◌∙◌, arith, Ok, refl, sym, subst, ◌≤◌}
+use Rattle.std.proofs.Common.{◌≡◌, ◌≢◌, ℕ, ◌+◌, true, List, [], ◌∷◌, length, ℤ, pos, nat_abs, ◌∙◌, arith, Ok, refl, sym, subst, ◌≤◌}
 use Rattle.std.specs.Prelude.{◌&&◌, ◌||◌, not, nat_eq, nat_le, IfOk}
 use Rattle.std.specs.List.{All, AllByRecursion}
 use Rattle.std.proofs.lemmas.List.{length-take}
@@ -10,19 +10,20 @@ use Rattle.lie_letters.specs.Spelled.{IsWordOver}
 use Rattle.lie_script.specs.Accepted.{Fits, AcceptedLinesFit}
 use Rattle.lie_script.specs.Checks.{found, none_at}
 use Rattle.lie_script.specs.Fields.{Span, fields_of, foreign_from, begins_with}
-use Rattle.lie_script.specs.Kinds.{field_of, field_line, datum_line, vector, root_line, coroot_line, bare_line, word_line, is_dash, weyl_of, weyl_line}
+use Rattle.lie_script.specs.Kinds.{field_of, field_line, datum_line, vector, root_line, coroot_line, bare_line, word_line, constant_line, is_dash, weyl_of, weyl_line}
 use Rattle.lie_script.specs.Names.{Listed}
 use Rattle.lie_script.specs.Letters.{word}
 use Rattle.lie_script.specs.Numbers.{is_within, allows, integer, number, numbers, natural}
 use Rattle.lie_script.specs.Reading.{keyword_of, is_command, begins, own_line, spoken, said, reads}
 use Rattle.lie_script.specs.declared.allowed.Allowed.{Allowed}
+use Rattle.lie_script.specs.declared.allowed.Allowed.TheVariants.{RootOf}
 use Rattle.lie_script.specs.declared.keyword.Keyword.{Keyword}
 use Rattle.lie_script.specs.declared.keyword.Keyword.TheVariants as keyword
 use Rattle.lie_script.specs.declared.sizes.Sizes.{Sizes}
 use Rattle.lie_script.specs.declared.sizes.Wants.{Wants}
 use Rattle.lie_script.specs.declared.sizes.Wants.TheVariants as wants
 use Rattle.lie_script.proofs.Steps.{bind-all, unless-all, if-all, each-ok, IfOk-from}
-use Rattle.lie_script.proofs.Elements.{word-over}
+use Rattle.lie_script.proofs.Elements.{AreBorel, word-borel, word-over}
 
 -- a number that was read is allowed
 number-allowed : (allowed : Allowed) (field : Span) → IfOk (number allowed field) (λ n. allows allowed n ≡ true)
@@ -49,6 +50,7 @@ awaited_by keyword.Coroot = wants.Coroot
 awaited_by keyword.Load = wants.Load
 awaited_by keyword.Form = wants.Command
 awaited_by keyword.Roots = wants.Command
+awaited_by keyword.Constant = wants.Command
 awaited_by keyword.Weyl = wants.Command
 
 -- a word that begins a line was awaited
@@ -95,6 +97,12 @@ begun keyword.Roots wants.Root due = absurd cc
 begun keyword.Roots wants.Coroot due = absurd cc
 begun keyword.Roots wants.Load due = absurd cc
 begun keyword.Roots wants.Command due = refl
+begun keyword.Constant wants.Field due = absurd cc
+begun keyword.Constant wants.Datum due = absurd cc
+begun keyword.Constant wants.Root due = absurd cc
+begun keyword.Constant wants.Coroot due = absurd cc
+begun keyword.Constant wants.Load due = absurd cc
+begun keyword.Constant wants.Command due = refl
 begun keyword.Weyl wants.Field due = absurd cc
 begun keyword.Weyl wants.Datum due = absurd cc
 begun keyword.Weyl wants.Root due = absurd cc
@@ -119,6 +127,20 @@ datum_line-fits sizes (d ∷ l ∷ []) =
     bind-all (Fits wants.Datum sizes) (natural 0 1000000 d) _ (λ d is. bind-all (Fits wants.Datum sizes) (natural 0 1000000 l) _ (λ l is. unless-all (Fits wants.Datum sizes) (nat_le 1 d && nat_le d 8 && nat_le l d) _ _ (λ sized. let parts = sized-is d l sized in (refl, parts.0, parts.1, parts.2))))
 datum_line-fits sizes (d ∷ l ∷ more ∷ fields) = tt
 
+apart-is : (m n : ℕ) → not (nat_eq m n) ≡ true → m ≢ n
+apart-is m n apart = grind (arith, apart)
+
+constant_line-fits : (sizes : Sizes) (fields : List Span) → IfOk (constant_line sizes fields) (Fits wants.Command sizes)
+constant_line-fits sizes [] = tt
+constant_line-fits sizes (r ∷ []) = tt
+constant_line-fits sizes (r ∷ s ∷ []) =
+    let P = Fits wants.Command sizes in
+    let allowed = RootOf sizes.m in
+    let Q = λ (n : ℤ). allows allowed n ≡ true in
+    bind-all P (number allowed r) _ (λ k is. bind-all P (number allowed s) _ (λ l are. unless-all P (not (nat_eq (nat_abs k) (nat_abs l))) _ _ (λ apart.
+    (refl, IfOk-at_ok Q is (number-allowed allowed r), IfOk-at_ok Q are (number-allowed allowed s), apart-is (nat_abs k) (nat_abs l) apart))))
+constant_line-fits sizes (r ∷ s ∷ more ∷ fields) = tt
+
 -- no index is out of its range where there is none
 none-indices : (l : ℕ) → All (λ i. is_within (pos 1) (pos l) i ≡ true) []
 none-indices l = All-from_recursion (λ i. is_within (pos 1) (pos l) i ≡ true) [] tt
@@ -132,8 +154,13 @@ own_line-fits sizes listed keyword.Root fields = bind-all (Fits wants.Root sizes
 own_line-fits sizes listed keyword.Coroot fields = bind-all (Fits wants.Coroot sizes) (vector sizes.d _ fields) _ (λ v is. (refl, IfOk-at_ok (λ v. length v ≡ sizes.d) is (vector-long sizes.d _ fields)))
 own_line-fits sizes listed keyword.Load fields = unless-all (Fits wants.Load sizes) (nat_eq (length fields) 0) _ _ (λ counted. refl)
 own_line-fits sizes listed keyword.Form fields =
-    bind-all (Fits wants.Command sizes) (word_line sizes fields) _ (λ w is. (refl, λ f q_is d_is. IfOk-at_ok (IsWordOver f) is (unless-all (IsWordOver f) (nat_le 1 (length fields)) _ (word sizes fields) (λ some. word-over f sizes fields q_is d_is))))
+    bind-all (Fits wants.Command sizes) (word_line sizes fields) _ (λ w is. (
+      refl,
+      IfOk-at_ok AreBorel is (unless-all AreBorel (nat_le 1 (length fields)) _ (word sizes fields) (λ some. word-borel sizes fields)),
+      λ f q_is has. IfOk-at_ok (IsWordOver f) is (unless-all (IsWordOver f) (nat_le 1 (length fields)) _ (word sizes fields) (λ some. word-over f sizes fields q_is has)),
+    ))
 own_line-fits sizes listed keyword.Roots fields = unless-all (Fits wants.Command sizes) (nat_eq (length fields) 0) _ _ (λ counted. refl)
+own_line-fits sizes listed keyword.Constant fields = constant_line-fits sizes fields
 own_line-fits sizes listed keyword.Weyl fields =
     let P = Fits wants.Command sizes in
     unless-all P (nat_le 1 (length fields)) _ _ (λ some. unless-all P (nat_le (length fields) 4096) _ _ (λ few. if-all P (is_dash fields) _ (weyl_of sizes fields) (refl, none-indices sizes.l) (bind-all P (numbers _ fields) _ (λ indices are. (refl, All-from_recursion (λ i. is_within (pos 1) (pos sizes.l) i ≡ true) indices (numbers-ok _ fields indices are).1)))))

@@ -1,16 +1,23 @@
 -- Elements and letters that were read are those of the frame.
-use Rattle.std.proofs.Common.{◌≡◌, ℕ, List, [], ◌∷◌, length, subst, arith, Ok}
-use Rattle.std.specs.Prelude.{not, nat_eq, nat_lt, filter, IfOk}
+use Rattle.std.proofs.Common.{◌≡◌, ℕ, zero, suc, ◌+◌, ◌<◌, ◌≤◌, ℤ, pos, List, [], ◌∷◌, length, take, drop, sym, subst, arith, Ok}
+use Rattle.std.proofs.lemmas.Int.{ints}
+use Rattle.std.specs.List.{AllByRecursion}
+use Rattle.lie_datum.specs.RootList.{Roots, IsNumber}
+use Rattle.lie_datum.proofs.NumberLemmas.{some_within}
+use Rattle.std.specs.Prelude.{not, ◌&&◌, nat_eq, nat_lt, nat_le, filter, IfOk}
 use Rattle.lie_field.specs.FiniteField.{FiniteField}
 use Rattle.lie_field.specs.Quotient.{order}
 use Rattle.lie_letters.specs.Entries.{IsUnit, AreUnits}
-use Rattle.lie_letters.specs.Setting.{FrameData, dim}
+use Rattle.lie_letters.specs.Frames.{FrameData}
 use Rattle.lie_letters.specs.Spelled.{IsLetterOver, IsWordOver}
-use Rattle.lie_letters.specs.declared.letter.Letter.TheVariants.{H}
+use Rattle.lie_letters.specs.declared.letter.Letter.{Letter}
+use Rattle.lie_letters.specs.declared.letter.Letter.TheVariants.{X, H}
 use Rattle.lie_script.specs.Checks.{◌>>=◌, unless, found}
-use Rattle.lie_script.specs.Fields.{Span, behind_first, before_last}
-use Rattle.lie_script.specs.Letters.{unit, units, spelled_list, torus_letter, letter_from, letter, letters, few_letters, word, is_letter}
-use Rattle.lie_script.specs.Setting.{HasField}
+use Rattle.lie_script.specs.Fields.{Span, behind_first, place_of, before_last}
+use Rattle.lie_script.specs.Letters.{element, root, not_negative, root_element, root_letter, unit, units, spelled, spelled_list, torus_letter, letter_from, letter, letters, few_letters, word, is_letter}
+use Rattle.lie_script.specs.Accepted.{IsBorelLetter}
+use Rattle.lie_script.specs.Numbers.{unsigned}
+use Rattle.lie_script.specs.Setting.{HasField, HasDatum}
 use Rattle.lie_script.specs.declared.faults.Fault.{Fault}
 use Rattle.lie_script.specs.declared.faults.FaultName.TheVariants as fault
 use Rattle.lie_script.specs.declared.faults.Fault.TheVariants.{At}
@@ -31,28 +38,87 @@ unfolding units
 units-ok F q column numbers t same h = each-ok (IsUnit F) (unit q column) (λ a b. unit-ok F q column a b same) numbers t h
 
 -- numbers, as many as there are coordinates, give a letter of the frame
-entries-over : (f : FrameData) (sizes : Sizes) (column : ℕ) (numbers : List ℕ) (e : Fault) → HasField sizes f.field → dim f ≡ sizes.d
+entries-over : (f : FrameData) (sizes : Sizes) (column : ℕ) (numbers : List ℕ) (e : Fault) → HasField sizes f.field → HasDatum sizes f.datum
     → IfOk (unless (nat_eq (length numbers) sizes.d) e >>= λ sized. units sizes.q column numbers >>= λ t. Ok (H t)) (IsLetterOver f)
-entries-over f sizes column numbers e q_is d_is =
+entries-over f sizes column numbers e q_is has =
     unless-all (IsLetterOver f) (nat_eq (length numbers) sizes.d) e (units sizes.q column numbers >>= λ t. Ok (H t)) (λ sized.
     bind-all (IsLetterOver f) (units sizes.q column numbers) (λ t. Ok (H t)) (λ t read.
     let found = units-ok f.field sizes.q column numbers t q_is read in
-    (grind (arith, sized, found.0, d_is), found.1)))
+    (grind (arith, sized, found.0, has.d_is), found.1)))
 
 -- a torus letter has an entry for each coordinate, and none is 0
-torus_letter-over : (f : FrameData) (sizes : Sizes) (column : ℕ) (bytes : List ℕ) → HasField sizes f.field → dim f ≡ sizes.d → IfOk (torus_letter sizes column bytes) (IsLetterOver f)
+torus_letter-over : (f : FrameData) (sizes : Sizes) (column : ℕ) (bytes : List ℕ) → HasField sizes f.field → HasDatum sizes f.datum → IfOk (torus_letter sizes column bytes) (IsLetterOver f)
 unfolding torus_letter
-torus_letter-over f sizes column bytes q_is d_is =
+torus_letter-over f sizes column bytes q_is has =
     let P = IsLetterOver f in
-    bind-all P (found (behind_first 40 bytes) (At fault.Letter column)) _ (λ opened is. bind-all P (found (before_last 41 opened) (At fault.Letter column)) _ (λ inner is. bind-all P (spelled_list column inner) _ (λ numbers is. entries-over f sizes column numbers (At fault.Torus column) q_is d_is)))
+    bind-all P (found (behind_first 40 bytes) (At fault.Letter column)) _ (λ opened is. bind-all P (found (before_last 41 opened) (At fault.Letter column)) _ (λ inner is. bind-all P (spelled_list column inner) _ (λ numbers is. entries-over f sizes column numbers (At fault.Torus column) q_is has)))
+
+-- an element that was read is below q
+element-ok : (q column a b : ℕ) → element q column a ≡ Ok b → b < q
+element-ok q column a b h =
+    let below = unless-ok (nat_lt a q) (At fault.Value column) (Ok a) b h in
+    subst (λ n. n < q) (Ok-is a b below.1) (grind (arith, below.0))
+
+-- a number that was read is that of a positive root
+root-ok : (m column k : ℕ) (r : ℤ) → root m column k ≡ Ok r → (1 ≤ k) × (k ≤ m) × (r ≡ pos k)
+root-ok m column k r h =
+    let named = unless-ok (nat_le 1 k && nat_le k m) (At fault.Root column) (Ok (pos k)) r h in
+    (grind (arith, named.0), grind (arith, named.0), sym (Ok-is (pos k) r named.1))
+
+-- what holds of each root element of a positive root holds of what is read
+root_element-all : (P : Letter → Type 0) (sizes : Sizes) (column : ℕ) (number inner : List ℕ) → ((k a : ℕ) → 1 ≤ k → k ≤ sizes.m → a < sizes.q → P (X (pos k) a))
+    → IfOk (root_element sizes column number inner) P
+root_element-all P sizes column number inner h =
+    bind-all P (spelled column (unsigned number)) _ (λ k is. bind-all P (spelled column inner) _ (λ a is. unless-all P (not_negative number k) _ _ (λ positive.
+    bind-all P (root sizes.m column k) _ (λ r is. bind-all P (element sizes.q column a) _ (λ b are. (let named = root-ok sizes.m column k r is in
+    subst (λ z. P (X z b)) (sym named.2) (h k b named.0 named.1 (element-ok sizes.q column a b are))))))))
+
+root_letter-all : (P : Letter → Type 0) (sizes : Sizes) (column : ℕ) (bytes : List ℕ) → ((k a : ℕ) → 1 ≤ k → k ≤ sizes.m → a < sizes.q → P (X (pos k) a)) → IfOk (root_letter sizes column bytes) P
+unfolding root_letter
+root_letter-all P sizes column bytes h =
+    unless-all P (nat_lt (place_of 40 bytes) (length bytes)) _ _ (λ opened. bind-all P (found (before_last 41 (drop (place_of 40 bytes + 1) bytes)) (At fault.Letter column)) _ (λ inner is.
+    root_element-all P sizes column (take (place_of 40 bytes) bytes) inner h))
+
+-- numbers up to m are those of positive roots
+number-within : (D : Roots) (k : ℕ) → 1 ≤ k → k ≤ length D.positive → IsNumber D (pos k)
+number-within D zero low high = absurd (omega (arith, low))
+number-within D (suc k) low high = some_within D.positive k (omega (arith, high))
+
+root_letter-over : (f : FrameData) (sizes : Sizes) (column : ℕ) (bytes : List ℕ) → HasField sizes f.field → HasDatum sizes f.datum → IfOk (root_letter sizes column bytes) (IsLetterOver f)
+root_letter-over f sizes column bytes q_is has =
+    root_letter-all (IsLetterOver f) sizes column bytes (λ k a low high below. (number-within f.datum k low (omega (arith, high, has.m_is)), omega (arith, below, q_is)))
 
 -- a letter that was read is a letter of the frame
-letter-over : (f : FrameData) (sizes : Sizes) (column : ℕ) (bytes : List ℕ) → HasField sizes f.field → dim f ≡ sizes.d → IfOk (letter_from sizes column bytes) (IsLetterOver f)
-letter-over f sizes column [] q_is d_is = tt
-letter-over f sizes column (b ∷ bytes) q_is d_is = if-all (IsLetterOver f) (nat_eq b 104) _ _ (torus_letter-over f sizes column bytes q_is d_is) tt
+letter-over : (f : FrameData) (sizes : Sizes) (column : ℕ) (bytes : List ℕ) → HasField sizes f.field → HasDatum sizes f.datum → IfOk (letter_from sizes column bytes) (IsLetterOver f)
+letter-over f sizes column [] q_is has = tt
+letter-over f sizes column (b ∷ bytes) q_is has =
+    let P = IsLetterOver f in if-all P (nat_eq b 104) _ _ (torus_letter-over f sizes column bytes q_is has) (if-all P (nat_eq b 120) _ _ (root_letter-over f sizes column bytes q_is has) tt)
 
 -- a word that was read is a word of the frame
-pub word-over : (f : FrameData) (sizes : Sizes) (fields : List Span) → HasField sizes f.field → dim f ≡ sizes.d → IfOk (word sizes fields) (IsWordOver f)
+pub word-over : (f : FrameData) (sizes : Sizes) (fields : List Span) → HasField sizes f.field → HasDatum sizes f.datum → IfOk (word sizes fields) (IsWordOver f)
 unfolding word letters letter
-word-over f sizes fields q_is d_is =
-    bind-all (IsWordOver f) (few_letters fields) (λ few. letters sizes fields) (λ few is. each-all (IsLetterOver f) (letter sizes) (λ field. letter-over f sizes field.column field.bytes q_is d_is) (filter is_letter fields))
+word-over f sizes fields q_is has =
+    bind-all (IsWordOver f) (few_letters fields) (λ few. letters sizes fields) (λ few is. each-all (IsLetterOver f) (letter sizes) (λ field. letter-over f sizes field.column field.bytes q_is has) (filter is_letter fields))
+
+-- each letter is one of the Borel subgroup
+abbrev pub AreBorel : List Letter → Type 0
+AreBorel w = AllByRecursion IsBorelLetter w
+
+torus_letter-borel : (sizes : Sizes) (column : ℕ) (bytes : List ℕ) → IfOk (torus_letter sizes column bytes) IsBorelLetter
+unfolding torus_letter
+torus_letter-borel sizes column bytes =
+    let P = IsBorelLetter in
+    bind-all P (found (behind_first 40 bytes) (At fault.Letter column)) _ (λ opened is. bind-all P (found (before_last 41 opened) (At fault.Letter column)) _ (λ inner is. bind-all P (spelled_list column inner) _ (λ numbers is.
+    unless-all P (nat_eq (length numbers) sizes.d) _ _ (λ sized. bind-all P (units sizes.q column numbers) _ (λ t read. tt)))))
+
+letter-borel : (sizes : Sizes) (column : ℕ) (bytes : List ℕ) → IfOk (letter_from sizes column bytes) IsBorelLetter
+letter-borel sizes column [] = tt
+letter-borel sizes column (b ∷ bytes) =
+    let P = IsBorelLetter in
+    if-all P (nat_eq b 104) _ _ (torus_letter-borel sizes column bytes) (if-all P (nat_eq b 120) _ _ (root_letter-all P sizes column bytes (λ k a low high below. omega (arith, ints, low))) tt)
+
+-- a word that was read has letters of the Borel subgroup
+pub word-borel : (sizes : Sizes) (fields : List Span) → IfOk (word sizes fields) AreBorel
+unfolding word letters letter
+word-borel sizes fields =
+    bind-all AreBorel (few_letters fields) (λ few. letters sizes fields) (λ few is. each-all IsBorelLetter (letter sizes) (λ field. letter-borel sizes field.column field.bytes) (filter is_letter fields))

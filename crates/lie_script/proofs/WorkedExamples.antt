@@ -1,9 +1,9 @@
 -- The definition of reading at work on lines of the language.
 use Rattle.std.specs.Prelude.{◌≡◌, refl, ℕ, true, false, pos, negsuc, List, [], ◌∷◌, ◌++◌, map, codes, Ok, Err, Result}
-use Rattle.lie_letters.specs.declared.letter.Letter.TheVariants.{H}
+use Rattle.lie_letters.specs.declared.letter.Letter.TheVariants.{X, H}
 use Rattle.lie_script.specs.Fields.{fields_of}
 use Rattle.lie_script.specs.Numbers.{number_of, integer, number, numbers, natural}
-use Rattle.lie_script.specs.Letters.{spelled, unit, spelled_list, units, torus_letter, letter, few_letters, letters, word}
+use Rattle.lie_script.specs.Letters.{spelled, unit, spelled_list, units, torus_letter, letter, few_letters, root_letter, letters, word}
 use Rattle.lie_script.specs.Kinds.{field_of, field_line, vector, root_line, coroot_line, bare_line, word_line, weyl_line}
 use Rattle.lie_script.specs.Reading.{keyword_of, own_line, spoken, reads}
 use Rattle.lie_script.specs.declared.faults.FaultName.TheVariants as fault
@@ -73,7 +73,6 @@ commands =
     (codes "form h(2)", Err (At fault.Torus 6)) ∷
     (codes "form h(1,1) h(2,)", Err (At fault.Letter 13)) ∷
     (codes "form y1", Err (At fault.Letter 6)) ∷
-    (codes "form x1(1)", Err (At fault.Letter 6)) ∷
     (codes "form n1", Err (At fault.Letter 6)) ∷
     (codes "form 01", Err (At fault.Letter 6)) ∷
     (codes "form h(1,0000000000000000001)", Err (At fault.Letter 6)) ∷
@@ -96,3 +95,35 @@ commands =
 commands_read : IsRead wants.Command (record { d = 2; l = 1; m = 1; q = 5; dim = 0; loaded = true }) commands
 unfolding reads fields_of spoken keyword_of own_line field_of field_line vector root_line coroot_line bare_line word_line weyl_line word letters few_letters letter torus_letter spelled unit spelled_list units number_of integer number numbers natural
 commands_read = refl
+
+-- words and constants over the field of five, with three positive roots
+abbrev root_commands : Table
+root_commands =
+    (codes "form x3(4) h(2,3) x1(0)", Ok (line.Form (X (pos 3) 4 ∷ H (2 ∷ 3 ∷ []) ∷ X (pos 1) 0 ∷ []))) ∷
+    (codes "form x-1(1)", Err (At fault.Letter 6)) ∷
+    (codes "form x-4(9)", Err (At fault.Letter 6)) ∷
+    (codes "form x-0(1)", Err (At fault.Root 6)) ∷
+    (codes "form x0(1)", Err (At fault.Root 6)) ∷
+    (codes "form 1 x4(9)", Err (At fault.Root 8)) ∷
+    (codes "form x1(5)", Err (At fault.Value 6)) ∷
+    (codes "form x1(-1)", Err (At fault.Letter 6)) ∷
+    (codes "form x1()", Err (At fault.Letter 6)) ∷
+    (codes "form x1(1", Err (At fault.Letter 6)) ∷
+    (codes "form x(1)", Err (At fault.Letter 6)) ∷
+    (codes "form x--1(1)", Err (At fault.Letter 6)) ∷
+    (codes "form x1((1)", Err (At fault.Letter 6)) ∷
+    (codes "form x0000000000000000001(1)", Err (At fault.Letter 6)) ∷
+    (codes "constant 01 -2", Ok (line.Constant (pos 1) (negsuc 1))) ∷
+    (codes "constant -0 1", Err (At fault.Root 10)) ∷
+    (codes "constant 1 -4", Err (At fault.Root 12)) ∷
+    (codes "constant 3 03", Err (Bare fault.Opposite)) ∷
+    (codes "constant -3 3", Err (Bare fault.Opposite)) ∷
+    (codes "constant 1", Err (At fault.Fields 1)) ∷
+    (codes "constant 9 x", Err (At fault.Root 10)) ∷
+    (codes "constant 1 x", Err (At fault.Number 12)) ∷
+    (codes "constant 1000000000000000000 1", Err (At fault.Range 10)) ∷
+    []
+
+root_commands_read : IsRead wants.Command (record { d = 2; l = 2; m = 3; q = 5; dim = 0; loaded = true }) root_commands
+unfolding reads fields_of spoken keyword_of own_line word_line word letters few_letters letter torus_letter root_letter spelled unit spelled_list units number_of integer number numbers
+root_commands_read = refl

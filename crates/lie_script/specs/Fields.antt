@@ -6,6 +6,7 @@
 --   its column    the place of its first byte, counted from 1
 --   plain bytes   the printable characters of ASCII and the tab
 use Rattle.std.specs.Prelude.{ℕ, ◌+◌, ◌-◌, Bool, false, nat_lt, length, take, slice_index, ◌&&◌, ◌||◌, nat_eq, nat_le, if◌then◌else◌, List, [], ◌∷◌, Option, Some, None}
+use Rattle.std.specs.List.{position_or_len}
 
 -- a field: the column of its first byte, and its bytes
 pub record Span : Type 0 where
@@ -51,6 +52,10 @@ begins_with c (b ∷ bytes) = nat_eq b c
 abbrev pub behind_first : ℕ → List ℕ → Option (List ℕ)
 behind_first c [] = None
 behind_first c (b ∷ bytes) = if nat_eq b c then Some bytes else None
+
+-- the place of the first c, counted from 0, or the length where there is none
+abbrev pub place_of : ℕ → List ℕ → ℕ
+place_of c bytes = position_or_len (λ b. nat_eq b c) bytes
 
 -- the bytes before c, where c is the last
 abbrev pub before_last : ℕ → List ℕ → Option (List ℕ)

@@ -8,15 +8,16 @@
 --   load                          no fields
 --   form w                        a word of one or more fields
 --   roots                         no fields
+--   constant r s                  signed numbers of two roots, neither equal nor opposite
 --   weyl i_1 .. i_n               indices of simple roots, at most 4,096; a lone `-` stands for none
-use Rattle.std.specs.Prelude.{ℕ, ◌+◌, ◌&&◌, nat_eq, nat_le, ℤ, pos, negsuc, nat_abs, List, [], ◌∷◌, length, take, get_or, codes, bytes_eq, Bool, false, if◌then◌else◌, Result, Ok}
+use Rattle.std.specs.Prelude.{ℕ, ◌+◌, ◌&&◌, not, nat_eq, nat_le, ℤ, pos, negsuc, nat_abs, List, [], ◌∷◌, length, take, get_or, codes, bytes_eq, Bool, false, if◌then◌else◌, Result, Ok}
 use Rattle.lie_letters.specs.declared.letter.Letter.{Letter}
 use Rattle.lie_script.specs.Fields.{Span}
 use Rattle.lie_script.specs.Checks.{◌>>=◌, unless, miscounted}
-use Rattle.lie_script.specs.Numbers.{numbers, natural}
+use Rattle.lie_script.specs.Numbers.{number, numbers, natural}
 use Rattle.lie_script.specs.Letters.{word}
 use Rattle.lie_script.specs.declared.allowed.Allowed.{Allowed}
-use Rattle.lie_script.specs.declared.allowed.Allowed.TheVariants.{Within, SimpleOf}
+use Rattle.lie_script.specs.declared.allowed.Allowed.TheVariants.{Within, SimpleOf, RootOf}
 use Rattle.lie_script.specs.declared.faults.FaultName.TheVariants as fault
 use Rattle.lie_script.specs.declared.faults.Fault.{Fault}
 use Rattle.lie_script.specs.declared.faults.Fault.TheVariants.{Bare, At}
@@ -79,6 +80,15 @@ unfoldable pub word_line : Sizes → List Span → Result (List Letter) Fault
 word_line sizes fields = do
   some ← unless (nat_le 1 (length fields)) (At fault.Fields (length fields))
   word sizes fields
+
+-- `constant r s`: s is neither r nor -r
+abbrev pub constant_line : Sizes → List Span → Result Line Fault
+constant_line sizes (r ∷ s ∷ []) = do
+  r ← number (RootOf sizes.m) r
+  s ← number (RootOf sizes.m) s
+  apart ← unless (not (nat_eq (nat_abs r) (nat_abs s))) (Bare fault.Opposite)
+  Ok (line.Constant r s)
+constant_line sizes fields = miscounted (length fields)
 
 -- the only field is `-`
 abbrev pub is_dash : List Span → Bool

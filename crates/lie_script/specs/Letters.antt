@@ -1,15 +1,16 @@
 -- Letters and words.
 -- Own.
 --
+--   x r ( a )         a root element: r is the number of a positive root, by its sign and digits, and a an element
 --   h( a , .. , a )   a torus element: d elements that aren't 0, by their numbers
 --   1                 as a field of a word: no letter
-use Rattle.std.specs.Prelude.{ℕ, Bool, not, nat_eq, nat_lt, nat_le, if◌then◌else◌, List, [], ◌∷◌, length, filter, codes, bytes_eq, Result, Ok, Err}
+use Rattle.std.specs.Prelude.{ℕ, ◌+◌, ℤ, pos, Bool, not, ◌&&◌, ◌||◌, nat_eq, nat_lt, nat_le, if◌then◌else◌, List, [], ◌∷◌, length, take, drop, filter, codes, bytes_eq, Result, Ok, Err}
 use Rattle.std.specs.List.{slice_split}
 use Rattle.lie_letters.specs.declared.letter.Letter.{Letter}
-use Rattle.lie_letters.specs.declared.letter.Letter.TheVariants.{H}
-use Rattle.lie_script.specs.Fields.{Span, behind_first, before_last}
+use Rattle.lie_letters.specs.declared.letter.Letter.TheVariants.{X, H}
+use Rattle.lie_script.specs.Fields.{Span, begins_with, behind_first, place_of, before_last}
 use Rattle.lie_script.specs.Checks.{◌>>=◌, unless, found, each}
-use Rattle.lie_script.specs.Numbers.{number_of}
+use Rattle.lie_script.specs.Numbers.{unsigned, number_of}
 use Rattle.lie_script.specs.declared.faults.FaultName.TheVariants as fault
 use Rattle.lie_script.specs.declared.faults.Fault.{Fault}
 use Rattle.lie_script.specs.declared.faults.Fault.TheVariants.{At}
@@ -26,10 +27,16 @@ spelled column bytes = found (number_of bytes) (At fault.Letter column)
 unfoldable pub spelled_list : ℕ → List ℕ → Result (List ℕ) Fault
 spelled_list column bytes = each (spelled column) (slice_split is_comma bytes)
 
+-- an element
+abbrev pub element : ℕ → ℕ → ℕ → Result ℕ Fault
+element q column a = do
+  below ← unless (nat_lt a q) (At fault.Value column)
+  Ok a
+
 -- an element that isn't 0
 unfoldable pub unit : ℕ → ℕ → ℕ → Result ℕ Fault
 unit q column a = do
-  element ← unless (nat_lt a q) (At fault.Value column)
+  below ← unless (nat_lt a q) (At fault.Value column)
   nonzero ← unless (not (nat_eq a 0)) (At fault.Torus column)
   Ok a
 
@@ -47,11 +54,39 @@ torus_letter sizes column bytes = do
   t ← units sizes.q column numbers
   Ok (H t)
 
+-- the number of a positive root
+abbrev pub root : ℕ → ℕ → ℕ → Result ℤ Fault
+root m column k = do
+  named ← unless (nat_le 1 k && nat_le k m) (At fault.Root column)
+  Ok (pos k)
+
+-- the number k with the sign of these bytes isn't below 0
+abbrev pub not_negative : List ℕ → ℕ → Bool
+not_negative bytes k = not (begins_with 45 bytes) || nat_eq k 0
+
+-- a root element by the bytes of its number and those between the parentheses
+abbrev pub root_element : Sizes → ℕ → List ℕ → List ℕ → Result Letter Fault
+root_element sizes column number inner = do
+  k ← spelled column (unsigned number)
+  a ← spelled column inner
+  positive ← unless (not_negative number k) (At fault.Letter column)
+  r ← root sizes.m column k
+  a ← element sizes.q column a
+  Ok (X r a)
+
+-- `x` was read: a number, and an element in parentheses; a negative number spells no letter here
+unfoldable pub root_letter : Sizes → ℕ → List ℕ → Result Letter Fault
+root_letter sizes column bytes = do
+  opened ← unless (nat_lt (place_of 40 bytes) (length bytes)) (At fault.Letter column)
+  inner ← found (before_last 41 (drop (place_of 40 bytes + 1) bytes)) (At fault.Letter column)
+  root_element sizes column (take (place_of 40 bytes) bytes) inner
+
 -- the kind of a letter is told by its first byte
 abbrev pub letter_from : Sizes → ℕ → List ℕ → Result Letter Fault
 letter_from sizes column [] = Err (At fault.Letter column)
 letter_from sizes column (b ∷ bytes) =
     if nat_eq b 104 then torus_letter sizes column bytes
+    else if nat_eq b 120 then root_letter sizes column bytes
     else Err (At fault.Letter column)
 
 -- a letter

@@ -10,9 +10,9 @@ use Rattle.std.specs.Str.Parse.{digits_value}
 use Rattle.lie_script.specs.Fields.{Span, begins_with}
 use Rattle.lie_script.specs.Checks.{◌>>=◌, unless, each}
 use Rattle.lie_script.specs.declared.allowed.Allowed.{Allowed}
-use Rattle.lie_script.specs.declared.allowed.Allowed.TheVariants.{Within, SimpleOf}
+use Rattle.lie_script.specs.declared.allowed.Allowed.TheVariants.{Within, SimpleOf, RootOf}
 use Rattle.lie_script.specs.declared.faults.FaultName.{FaultName}
-use Rattle.lie_script.specs.declared.faults.FaultName.TheVariants.{Number, Range, Simple}
+use Rattle.lie_script.specs.declared.faults.FaultName.TheVariants.{Number, Range, Root, Simple}
 use Rattle.lie_script.specs.declared.faults.Fault.{Fault}
 use Rattle.lie_script.specs.declared.faults.Fault.TheVariants.{At}
 
@@ -52,11 +52,13 @@ is_within low high n = int_le low n && int_le n high
 abbrev pub allows : Allowed → ℤ → Bool
 allows (Within low high) n = is_within low high n
 allows (SimpleOf l) n = is_within (pos 1) (pos l) n
+allows (RootOf m) n = nat_le 1 (nat_abs n) && nat_le (nat_abs n) m
 
 -- the fault of the others
 abbrev pub fault_of : Allowed → FaultName
 fault_of (Within low high) = Range
 fault_of (SimpleOf l) = Simple
+fault_of (RootOf m) = Root
 
 -- an allowed number
 unfoldable pub number : Allowed → Span → Result ℤ Fault

@@ -7,4 +7,6 @@ pub enum Allowed {
     Within(i128, i128),
     /// Indices of so many simple roots, counted from 1; else `simple`.
     SimpleOf(usize),
+    /// Signed numbers of so many positive roots and their opposites, counted from 1; else `root`.
+    RootOf(usize),
 }

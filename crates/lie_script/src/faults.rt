@@ -22,6 +22,8 @@ pub enum FaultName {
     Number,
     /// The number at a column is not in its range.
     Range,
+    /// The number at a column is no signed number of a root.
+    Root,
     /// The number at a column is no index of a simple root.
     Simple,
     /// The number of letters, where there are too many.
@@ -32,6 +34,8 @@ pub enum FaultName {
     Torus,
     /// The letter at a column has a number that no element has.
     Value,
+    /// The two roots are equal or opposite.
+    Opposite,
     /// The dimension is not in 1..=8, or there are more simple roots than that.
     Size,
     /// The input ended before it may.

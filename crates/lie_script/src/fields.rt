@@ -1,8 +1,6 @@
 //! Fields of a line, with their columns.
 ghost use Rattle.std.specs.Prelude.{◌≡◌, ◌<◌, ◌≤◌, true, false, length, vec_len, ℕ, slice_index, IfOk};
-ghost use Rattle.std.specs.List.{position_or_len};
-ghost use Rattle.lie_script.specs.Fields.{is_blank as blank, fields_of, foreign_from, before_last as bytes_before_last, behind_first as bytes_behind_first};
-ghost use Rattle.lie_script.specs.Letters.{is_comma};
+ghost use Rattle.lie_script.specs.Fields.{is_blank as blank, fields_of, foreign_from, place_of, before_last as bytes_before_last, behind_first as bytes_behind_first};
 ghost use Rattle.lie_script.specs.LineFields.{spans, bytes_of};
 
 use std::alloc::{AllocError, Global};
@@ -93,13 +91,13 @@ pub(crate) fn before_last(c: u8, bytes: &[u8]) -> Option<&[u8]>
     }
 }
 
-/// The place of the first comma, or the end.
-pub(crate) fn comma_at(bytes: &[u8]) -> usize
-    ensures place { result ≡ position_or_len is_comma bytes.now }
+/// The place of the first c, counted from 0, or the end.
+pub(crate) fn place_of(c: u8, bytes: &[u8]) -> usize
+    ensures place { result ≡ place_of c bytes.now }
     ensures bound { result ≤ length bytes.now }
 {
     for (i, b) in bytes.iter().enumerate() {
-        if *b == b',' {
+        if *b == c {
             return i;
         }
     }

@@ -14,6 +14,7 @@ pub enum Keyword {
     Load,
     Form,
     Roots,
+    Constant,
     Weyl,
 }
 
@@ -23,7 +24,7 @@ impl Keyword {
         ensures { result ≡ commands self }
     {
         match self {
-            Keyword::Form | Keyword::Roots | Keyword::Weyl => true,
+            Keyword::Form | Keyword::Roots | Keyword::Constant | Keyword::Weyl => true,
             _ => false,
         }
     }
@@ -62,6 +63,8 @@ pub(crate) fn keyword_of(bytes: &[u8]) -> Option<Keyword>
         Some(Keyword::Form)
     } else if bytes == b"roots".as_slice() {
         Some(Keyword::Roots)
+    } else if bytes == b"constant".as_slice() {
+        Some(Keyword::Constant)
     } else if bytes == b"weyl".as_slice() {
         Some(Keyword::Weyl)
     } else {

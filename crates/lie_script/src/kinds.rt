@@ -1,9 +1,9 @@
 //! The kinds of lines.
-ghost use Rattle.std.specs.Prelude.{◌≡◌, ◌∷◌, [], pos, true, All};
+ghost use Rattle.std.specs.Prelude.{◌≡◌, ◌∷◌, [], pos, true, All, ◌≤◌};
 ghost use Rattle.lie_script.specs.Checks.{Gives};
-ghost use Rattle.lie_script.specs.Kinds.{field_of as field_of_read, field_line as field_line_read, datum_line as datum_line_read, vector as vector_read, root_line as root_line_read, coroot_line as coroot_line_read, bare_line as bare_line_read, word_line as word_line_read, is_dash as lone_dash, weyl_line as weyl_line_read};
+ghost use Rattle.lie_script.specs.Kinds.{field_of as field_of_read, field_line as field_line_read, datum_line as datum_line_read, vector as vector_read, root_line as root_line_read, coroot_line as coroot_line_read, bare_line as bare_line_read, word_line as word_line_read, constant_line as constant_line_read, is_dash as lone_dash, weyl_line as weyl_line_read};
 ghost use Rattle.lie_script.specs.LineFields.{span, spans};
-ghost use Rattle.lie_script.specs.Numbers.{is_within};
+ghost use Rattle.lie_script.specs.Numbers.{is_within, number as number_read};
 ghost use Rattle.lie_script.specs.Setting.{HasField, HasDatum};
 
 use crate::allowed::Allowed;
@@ -12,7 +12,7 @@ use crate::fields::LineField;
 use crate::kept::Numbers;
 use crate::letters::word;
 use crate::line::Line;
-use crate::numbers::{natural, numbers};
+use crate::numbers::{natural, number, numbers};
 use crate::sizes::Sizes;
 use lie_datum::Datum;
 use lie_field::Field;
@@ -151,6 +151,44 @@ pub(crate) fn word_line(
         return Err(Stop::Faulty(miscounted(0)));
     }
     word(alloc, sizes, field, datum, fields)
+}
+
+/// The signed number of one of m positive roots or their opposites.
+fn root_number(m: usize, field: &LineField<'_>) -> Result<i32, Fault>
+    requires { m ≤ 120 }
+    ensures { result ≡ number_read (Allowed.RootOf m) (span field.now) }
+{
+    let n = number(Allowed::RootOf(m), field)?;
+    Ok(n as i32)
+}
+
+/// The fields of `constant`.
+fn constant_of(sizes: &Sizes, r: &LineField<'_>, s: &LineField<'_>) -> Result<Line, Fault>
+    requires { sizes.now.m ≤ 120 }
+    ensures { result ≡ constant_line_read sizes.now (span r.now ∷ span s.now ∷ []) }
+{
+    let r = root_number(sizes.m, r)?;
+    let s = root_number(sizes.m, s)?;
+    if r.unsigned_abs() == s.unsigned_abs() {
+        return Err(Fault::Bare(FaultName::Opposite));
+    }
+    Ok(Line::Constant { r, s })
+}
+
+/// `constant r s`.
+pub(crate) fn constant_line(
+    sizes: &Sizes,
+    datum: &Datum,
+    fields: &[LineField<'_>],
+) -> Result<Line, Fault>
+    requires { HasDatum sizes.now datum.now }
+    ensures { result ≡ constant_line_read sizes.now (spans fields.now) }
+{
+    let _m = datum.m();
+    match fields {
+        [r, s] => constant_of(sizes, r, s),
+        _ => Err(miscounted(fields.len())),
+    }
 }
 
 /// Whether the only field is `-`.

@@ -4,15 +4,15 @@ ghost use Rattle.std.specs.List.{slice_split};
 ghost use Rattle.lie_field.specs.Quotient.{order};
 ghost use Rattle.lie_letters.specs.Entries.{AreUnits};
 ghost use Rattle.lie_script.specs.Checks.{Gives};
-ghost use Rattle.lie_script.specs.Letters.{is_comma, spelled as spelled_read, unit as unit_read, spelled_list as spelled_list_read, units as units_read, torus_letter as torus_letter_read, letter as letter_read, is_letter as letter_field, few_letters as few_letters_read, letters as letters_read, word as word_read};
+ghost use Rattle.lie_script.specs.Letters.{is_comma, spelled as spelled_read, element as element_read, unit as unit_read, root as root_read, not_negative as not_negative_read, root_element as root_element_read, root_letter as root_letter_read, spelled_list as spelled_list_read, units as units_read, torus_letter as torus_letter_read, letter as letter_read, is_letter as letter_field, few_letters as few_letters_read, letters as letters_read, word as word_read};
 ghost use Rattle.lie_script.specs.LineFields.{span, spans, bytes_of, pieces_of};
 ghost use Rattle.lie_script.specs.Setting.{HasField, HasDatum};
 
 use crate::faults::{Fault, FaultName, Stop};
-use crate::fields::{LineField, before_last, behind_first, comma_at};
-use crate::numbers::number_of;
+use crate::fields::{LineField, before_last, behind_first, place_of};
+use crate::numbers::{number_of, unsigned};
 use crate::sizes::Sizes;
-use lie_datum::Datum;
+use lie_datum::{Datum, RootId};
 use lie_field::{Fe, Field};
 use lie_letters::{Letter, Torus, Word};
 use std::alloc::Global;
@@ -39,7 +39,7 @@ fn first_piece(bytes: &[u8]) -> (&[u8], Option<&[u8]>)
     ensures pieces { slice_split is_comma bytes.now ≡ result.0.now ∷ pieces_of (bytes_of result.1) }
     ensures shorter { IfSome result.1 (λ rest. length rest.now < length bytes.now) }
 {
-    let at = comma_at(bytes);
+    let at = place_of(b',', bytes);
     if at < bytes.len() {
         (&bytes[..at], Some(&bytes[at + 1..]))
     } else {
@@ -71,12 +71,19 @@ fn element_of(field: &Field, a: u64) -> Option<Fe>
     field.elem(a as u32)
 }
 
+/// The element of a number.
+fn element(field: &Field, column: usize, a: u64) -> Result<Fe, Fault>
+    ensures { result ≡ element_read (order field.now.given) column a }
+{
+    element_of(field, a).ok_or(Fault::At(FaultName::Value, column))
+}
+
 /// An element that isn't 0.
 #[tactic(auto, unfolding(crate::specs::Letters::unit))]
 fn unit(field: &Field, column: usize, a: u64) -> Result<Fe, Fault>
     ensures { result ≡ unit_read (order field.now.given) column a }
 {
-    let element = element_of(field, a).ok_or(Fault::At(FaultName::Value, column))?;
+    let element = element(field, column, a)?;
     if a == 0 {
         return Err(Fault::At(FaultName::Torus, column));
     }
@@ -134,6 +141,71 @@ fn torus_letter(
     Ok(Letter::H(torus_of(field, &entries)))
 }
 
+/// The positive root of a number.
+fn root(sizes: &Sizes, datum: &Datum, column: usize, k: u64) -> Result<RootId, Fault>
+    requires { HasDatum sizes.now datum.now }
+    ensures { result ≡ root_read sizes.now.m column k }
+{
+    let m = datum.m();
+    if k < 1 || k > m as u64 {
+        return Err(Fault::At(FaultName::Root, column));
+    }
+    match datum.id(k as i32) {
+        Some(root) => Ok(root),
+        None => unreachable!(),
+    }
+}
+
+/// Whether the number with the sign of these bytes isn't below 0.
+fn not_negative(bytes: &[u8], k: u64) -> bool
+    ensures { result ≡ not_negative_read bytes.now k }
+{
+    bytes.first() != Some(&b'-') || k == 0
+}
+
+/// A root element by the bytes of its number and those between the parentheses.
+fn root_element(
+    sizes: &Sizes,
+    field: &Field,
+    datum: &Datum,
+    column: usize,
+    number: &[u8],
+    inner: &[u8],
+) -> Result<Letter, Fault>
+    requires field { HasField sizes.now field.now }
+    requires datum { HasDatum sizes.now datum.now }
+    ensures { result ≡ root_element_read sizes.now column number.now inner.now }
+{
+    let k = spelled(column, unsigned(number))?;
+    let a = spelled(column, inner)?;
+    if !not_negative(number, k) {
+        return Err(misspelled(column));
+    }
+    let root = root(sizes, datum, column, k)?;
+    Ok(Letter::X(root, element(field, column, a)?))
+}
+
+/// `x` was read: a number, and an element in parentheses. A negative number spells no letter here.
+#[tactic(auto, unfolding(crate::specs::Letters::root_letter))]
+fn root_letter(
+    sizes: &Sizes,
+    field: &Field,
+    datum: &Datum,
+    column: usize,
+    bytes: &[u8],
+) -> Result<Letter, Fault>
+    requires field { HasField sizes.now field.now }
+    requires datum { HasDatum sizes.now datum.now }
+    ensures { result ≡ root_letter_read sizes.now column bytes.now }
+{
+    let at = place_of(b'(', bytes);
+    if at >= bytes.len() {
+        return Err(misspelled(column));
+    }
+    let inner = before_last(b')', &bytes[at + 1..]).ok_or(misspelled(column))?;
+    root_element(sizes, field, datum, column, &bytes[..at], inner)
+}
+
 /// A letter, whose kind is told by its first byte.
 #[tactic(auto, unfolding(crate::specs::Letters::letter))]
 fn letter(
@@ -150,6 +222,7 @@ fn letter(
     let column = spelled.column;
     match spelled.bytes {
         [b'h', rest @ ..] => torus_letter(alloc, sizes, field, datum, column, rest),
+        [b'x', rest @ ..] => Ok(root_letter(sizes, field, datum, column, rest)?),
         _ => Err(Stop::Faulty(misspelled(column))),
     }
 }

@@ -24,6 +24,11 @@ pub enum Line {
     Load,
     Form(Word),
     Roots,
+    /// The signed numbers of two roots, neither equal nor opposite.
+    Constant {
+        r: i32,
+        s: i32,
+    },
     /// The indices of simple reflections, counted from 1; the last acts first.
     Weyl(Numbers),
 }

@@ -52,7 +52,7 @@ pub(crate) fn number_of(bytes: &[u8]) -> Option<u64>
 }
 
 /// The bytes after a sign.
-fn unsigned(bytes: &[u8]) -> &[u8]
+pub(crate) fn unsigned(bytes: &[u8]) -> &[u8]
     ensures { result.now ≡ without_sign bytes.now }
 {
     match bytes {
@@ -94,6 +94,7 @@ impl Allowed {
         match self {
             Allowed::Within(low, high) => low <= n && n <= high,
             Allowed::SimpleOf(l) => 1 <= n && n <= l as i128,
+            Allowed::RootOf(m) => 1 <= n.unsigned_abs() && n.unsigned_abs() <= m as u128,
         }
     }
 
@@ -103,6 +104,7 @@ impl Allowed {
         match self {
             Allowed::Within(_, _) => FaultName::Range,
             Allowed::SimpleOf(_) => FaultName::Simple,
+            Allowed::RootOf(_) => FaultName::Root,
         }
     }
 }

@@ -12,7 +12,7 @@ use crate::fields::{LineField, fields, foreign_column};
 use crate::kept::Numbers;
 use crate::keyword::{Keyword, keyword_of};
 use crate::kinds::{
-    bare_line, coroot_line, datum_line, field_line, root_line, weyl_line, word_line,
+    bare_line, constant_line, coroot_line, datum_line, field_line, root_line, weyl_line, word_line,
 };
 use crate::line::Line;
 use crate::names::Names;
@@ -64,6 +64,10 @@ fn own_line<N: Names>(
             Ok(Line::Form(word_line(alloc, sizes, field, datum, spelled)?))
         }
         Keyword::Roots => Ok(bare_line(Line::Roots, spelled)?),
+        Keyword::Constant => {
+            let (_field, datum) = both(field, datum);
+            Ok(constant_line(sizes, datum, spelled)?)
+        }
         Keyword::Weyl => weyl_line(alloc, sizes, spelled),
     }
 }

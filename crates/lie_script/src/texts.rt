@@ -31,11 +31,13 @@ impl FaultName {
             FaultName::Fields => b"fields".as_slice(),
             FaultName::Number => b"number".as_slice(),
             FaultName::Range => b"range".as_slice(),
+            FaultName::Root => b"root".as_slice(),
             FaultName::Simple => b"simple".as_slice(),
             FaultName::Letters => b"letters".as_slice(),
             FaultName::Letter => b"letter".as_slice(),
             FaultName::Torus => b"torus".as_slice(),
             FaultName::Value => b"value".as_slice(),
+            FaultName::Opposite => b"opposite".as_slice(),
             FaultName::Size => b"size".as_slice(),
             FaultName::End => b"end".as_slice(),
         }

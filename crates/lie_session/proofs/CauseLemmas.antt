@@ -1,5 +1,5 @@
 -- The cause of a status, from what was read and written.
-use Rattle.std.proofs.Common.{◌≡◌, ◌≢◌, ℕ, ◌+◌, ◌<◌, ◌≤◌, List, [], ◌++◌, Option, Some, None, length, refl, sym, ◌∙◌, ap, subst, ◌⊎◌, inl, inr, arith, append-nil, length-append}
+use Rattle.std.proofs.Common.{◌≡◌, ℕ, ◌+◌, ◌<◌, ◌≤◌, List, [], ◌++◌, Option, Some, None, length, refl, sym, ◌∙◌, ap, subst, ◌⊎◌, inl, inr, arith, append-nil, length-append}
 use Rattle.lie_kit.specs.Streams.{Rose, after_bytes}
 use Rattle.lie_session.specs.State.{fresh}
 use Rattle.lie_session.specs.Lines.{lines_of}

@@ -1,8 +1,9 @@
 -- What a reply changes in a session.
-use Rattle.std.proofs.Common.{◌≡◌, ◌≢◌, ℕ, Bool, true, false, cond, List, Option, Some, None, refl, sym, ap, ◌∙◌, subst, inl, inr, Result, Ok, Err}
+use Rattle.std.proofs.Common.{◌≡◌, ℕ, Bool, true, false, cond, List, Option, Some, None, refl, sym, ap, ◌∙◌, subst, inl, inr, Result, Ok, Err}
 use Rattle.std.specs.Prelude.{MatchOption, MatchResult, IfOk, ℤ}
 use Rattle.std.specs.Bool.{MatchBool}
 use Rattle.std.specs.Option.{IfSome}
+use Rattle.lie_const.specs.Signs.{SignTable}
 use Rattle.lie_datum.specs.RootList.{Roots, IsLoaded}
 use Rattle.lie_field.specs.FiniteField.{FiniteField}
 use Rattle.lie_field.specs.Faults.{IsSized}
@@ -13,10 +14,10 @@ use Rattle.lie_script.specs.declared.faults.Fault.{Fault}
 use Rattle.lie_script.specs.declared.line.Line.{Line}
 use Rattle.lie_script.specs.declared.line.Line.TheVariants as line
 use Rattle.lie_session.specs.DatumLines.{DatumLines, opened, with_root, with_coroot, is_whole}
-use Rattle.lie_session.specs.Faults.{field_refusal, datum_refusal}
+use Rattle.lie_session.specs.Faults.{field_refusal, datum_refusal, constants_refusal, signs_refusal, braid_refusal}
 use Rattle.lie_session.specs.State.{State, whole, wants_of, sizes_of}
-use Rattle.lie_session.specs.Texts.{loaded_text, roots_text}
-use Rattle.lie_session.specs.Replies.{next_count, Refuses, Accepts, Answers, AnswersForm, AnswersWeyl, KeepsField, KeepsDatum, ReadsDatum, InDatum, WithBoth, Does, Replies, line_refusal}
+use Rattle.lie_reply.specs.Texts.{loaded_text, roots_text}
+use Rattle.lie_session.specs.Replies.{next_count, Refuses, Accepts, Answers, AnswersForm, AnswersConstant, AnswersWeyl, KeepsField, KeepsDatum, ReadsDatum, LoadsBraids, LoadsSigns, LoadsGroup, InDatum, Does, Replies, line_refusal}
 use Rattle.lie_session.specs.Changes.{Changes}
 use Rattle.lie_session.specs.declared.datum.DatumStage.{DatumStage}
 use Rattle.lie_session.specs.declared.datum.DatumStage.TheVariants as datum
@@ -79,6 +80,18 @@ datum_steps : (s : State) (n : ℕ) (lines : DatumLines) (reply : Reply) (next :
 datum_steps s n lines reply next (inl h) = accepts_steps s (record s { datum = datum.Whole h.0 }) reply next refl refl (keeps_datum h.0 h.1.1) h.2
 datum_steps s n lines reply next (inr h) = refuses_steps s (datum_refusal n lines.rank h.0) reply next h.3
 
+braids_steps : (s : State) (n : ℕ) (F : FiniteField) (D : Roots) (signs : SignTable) (reply : Reply) (next : State) → LoadsBraids s n F D signs reply next → Steps s reply next
+braids_steps s n F D signs reply next (inl h) = answers_steps s (record s { loaded = true }) (loaded_text F D) reply next refl refl loads h.1
+braids_steps s n F D signs reply next (inr h) = refuses_steps s (braid_refusal n h.0 h.1 h.2) reply next h.4
+
+signs_steps : (s : State) (n : ℕ) (F : FiniteField) (D : Roots) (reply : Reply) (next : State) → LoadsSigns s n F D reply next → Steps s reply next
+signs_steps s n F D reply next (inl h) = braids_steps s n F D h.1 reply next h.4
+signs_steps s n F D reply next (inr h) = refuses_steps s (signs_refusal n h.1) reply next h.5
+
+group_steps : (s : State) (n : ℕ) (F : FiniteField) (D : Roots) (reply : Reply) (next : State) → LoadsGroup s n F D reply next → Steps s reply next
+group_steps s n F D reply next (inl h) = signs_steps s n F D reply next h.2
+group_steps s n F D reply next (inr h) = refuses_steps s (constants_refusal n h.0) reply next h.3
+
 joined_steps : (last : Bool) (s : State) (n : ℕ) (lines : DatumLines) (reply : Reply) (next : State)
     → MatchBool last (KeepsDatum s n lines reply next) (Accepts (record s { datum = datum.Reading lines }) reply next) → Steps s reply next
 joined_steps true s n lines reply next h = datum_steps s n lines reply next h
@@ -93,12 +106,13 @@ does_steps s n (line.Root v) reply next h =
 does_steps s n (line.Coroot v) reply next h =
     in_datum (λ lines. ReadsDatum s n (with_coroot lines v) reply next) s.datum (λ lines r. joined_steps (is_whole (with_coroot lines v)) s n (with_coroot lines v) reply next r) h
 does_steps s n line.Load reply next h =
-    with_both (λ F D. Answers (record s { loaded = true }) (loaded_text F D) reply next) s.field (whole s.datum)
-    (λ F D a. answers_steps s (record s { loaded = true }) (loaded_text F D) reply next refl refl loads a) h
+    with_both (λ F D. LoadsGroup s n F D reply next) s.field (whole s.datum) (λ F D a. group_steps s n F D reply next a) h
 does_steps s n (line.Form w) reply next h =
-    with_both (λ F D. AnswersForm s F D.base.dim w reply next) s.field (whole s.datum) (λ F D a. answers_steps s s a.0 reply next refl refl stays a.2) h
+    with_both (λ F D. AnswersForm s F D w reply next) s.field (whole s.datum) (λ F D a. answers_steps s s a.0 reply next refl refl stays a.2) h
 does_steps s n line.Roots reply next h =
     with_both (λ F D. Answers s (roots_text D) reply next) s.field (whole s.datum) (λ F D a. answers_steps s s (roots_text D) reply next refl refl stays a) h
+does_steps s n (line.Constant p q) reply next h =
+    with_both (λ F D. AnswersConstant s D p q reply next) s.field (whole s.datum) (λ F D a. answers_steps s s a.0 reply next refl refl stays a.2) h
 does_steps s n (line.Weyl indices) reply next h =
     with_both (λ F D. AnswersWeyl s D indices reply next) s.field (whole s.datum) (λ F D a. answers_steps s s a.0 reply next refl refl stays a.2) h
 

@@ -1,12 +1,9 @@
 pub mod ToldLemmas
 pub mod LineLemmas
 pub mod InputLemmas
-pub mod ProductLemmas
-pub mod TextLemmas
-pub mod SpacedLemmas
 pub mod StateLemmas
-pub mod RootsLemmas
-pub mod WeylLemmas
+pub mod ConstantLemmas
+pub mod OneLoading
 pub mod ChangeLemmas
 pub mod OneOutputLemmas
 pub mod StatusLemmas

@@ -3,7 +3,6 @@ use Rattle.std.proofs.Common.{◌≡◌, ◌≢◌, ℕ, ◌+◌, Bool, true, fa
 use Rattle.std.specs.Prelude.{MatchOption, MatchResult, ℤ, map, nat_abs}
 use Rattle.std.specs.Bool.{MatchBool}
 use Rattle.std.specs.Option.{IfSome}
-use Rattle.lie_datum.specs.Load.{Loads}
 use Rattle.lie_datum.specs.RootList.{Roots, IsLoaded}
 use Rattle.lie_datum.specs.declared.faults.DatumFault.{DatumFault}
 use Rattle.lie_datum.specs.declared.faults.DatumFault.TheVariants as datum_fault
@@ -26,8 +25,8 @@ use Rattle.lie_session.specs.DatumLines.{DatumLines, opened, with_root, with_cor
 use Rattle.lie_session.specs.Faults.{field_refusal, datum_refusal}
 use Rattle.lie_session.specs.Lines.{lines_of}
 use Rattle.lie_session.specs.State.{State, fresh, whole, wants_of, sizes_of}
-use Rattle.lie_session.specs.Texts.{loaded_text, roots_text}
-use Rattle.lie_session.specs.Replies.{Refuses, Accepts, Answers, KeepsField, KeepsDatum, ReadsDatum, InDatum, AnswersForm, AnswersWeyl, Does, Replies, RepliesAtEnd, line_refusal}
+use Rattle.lie_reply.specs.Texts.{roots_text}
+use Rattle.lie_session.specs.Replies.{Refuses, Accepts, Answers, KeepsField, KeepsDatum, ReadsDatum, LoadsGroup, InDatum, AnswersForm, AnswersConstant, AnswersWeyl, Does, Replies, RepliesAtEnd, line_refusal}
 use Rattle.lie_session.specs.Output.{rests, RepliesTo, AreReplies, bytes_of, status_of, IsOutput}
 use Rattle.lie_session.specs.declared.datum.DatumStage.{DatumStage}
 use Rattle.lie_session.specs.declared.datum.DatumStage.TheVariants as datum
@@ -35,19 +34,10 @@ use Rattle.lie_session.specs.declared.mode.Mode.{Mode}
 use Rattle.lie_session.specs.declared.reply.Reply.{Reply}
 use Rattle.lie_session.specs.declared.status.Status.{Status}
 use Rattle.lie_session.proofs.ChangeLemmas.{IsSoundState, sound_from}
-use Rattle.lie_session.proofs.TextLemmas.{one_text}
-use Rattle.lie_session.proofs.WeylLemmas.{one_weyl_text}
-
--- one reply, and one state after it
-abbrev Same : Reply → Reply → State → State → Type 0
-Same r r' t t' = (r ≡ r') × (t ≡ t')
-
-both : {r r' x : Reply} {t t' y : State} → (r ≡ x) × (t ≡ y) → (r' ≡ x) × (t' ≡ y) → Same r r' t t'
-both h h' = (h.0 ∙ sym h'.0, h.1 ∙ sym h'.1)
-
--- the same refusal
-refused_alike : (s : State) (text text' : List ℕ) (r r' : Reply) (t t' : State) → text ≡ text' → Refuses s text r t → Refuses s text' r' t' → Same r r' t t'
-refused_alike s text text' r r' t t' same h h' = both h (subst (λ z. Refuses s z r' t') (sym same) h')
+use Rattle.lie_reply.proofs.ConstantLemmas.{one_constant_text}
+use Rattle.lie_reply.proofs.TextLemmas.{one_text}
+use Rattle.lie_reply.proofs.WeylLemmas.{one_weyl_text}
+use Rattle.lie_session.proofs.OneLoading.{Same, both, refused_alike, one_loading}
 
 -- a field within the limits has no fault
 no_fault : (given : FieldData) (F : FiniteField) (why : FieldFault) → F.given ≡ given → IsSized F.given → IsFault given why → why ≡ field_fault.NoMemory
@@ -114,12 +104,12 @@ one_answer s text (Some F) (Some D) r r' t t' h h' = both h h'
 answered_alike : (s : State) (text text' : List ℕ) (r r' : Reply) (t t' : State) → text ≡ text' → Answers s text r t → Answers s text' r' t' → Same r r' t t'
 answered_alike s text text' r r' t t' same h h' = both h (subst (λ z. Answers s z r' t') (sym same) h')
 
-one_form : (s : State) (w : List Letter) (field : Option FiniteField) (d : Option Roots) (r r' : Reply) (t t' : State) → IfSome field (λ F. IsSized F.given)
-    → MatchOption field ⊥ (λ F. MatchOption d ⊥ (λ D. AnswersForm s F D.base.dim w r t))
-    → MatchOption field ⊥ (λ F. MatchOption d ⊥ (λ D. AnswersForm s F D.base.dim w r' t')) → Same r r' t t'
-one_form s w None d r r' t t' sized h h' = absurd h
-one_form s w (Some F) None r r' t t' sized h h' = absurd h
-one_form s w (Some F) (Some D) r r' t t' sized h h' = answered_alike s h.0 h'.0 r r' t t' (one_text F D.base.dim w h.0 h'.0 sized h.1 h'.1) h.2 h'.2
+one_form : (s : State) (w : List Letter) (field : Option FiniteField) (d : Option Roots) (r r' : Reply) (t t' : State)
+    → MatchOption field ⊥ (λ F. MatchOption d ⊥ (λ D. AnswersForm s F D w r t))
+    → MatchOption field ⊥ (λ F. MatchOption d ⊥ (λ D. AnswersForm s F D w r' t')) → Same r r' t t'
+one_form s w None d r r' t t' h h' = absurd h
+one_form s w (Some F) None r r' t t' h h' = absurd h
+one_form s w (Some F) (Some D) r r' t t' h h' = answered_alike s h.0 h'.0 r r' t t' (one_text F D w h.0 h'.0 h.1 h'.1) h.2 h'.2
 
 one_weyl : (s : State) (indices : List ℤ) (field : Option FiniteField) (d : Option Roots) (r r' : Reply) (t t' : State) → IfSome d IsLoaded
     → MatchOption field ⊥ (λ F. MatchOption d ⊥ (λ D. AnswersWeyl s D indices r t))
@@ -128,15 +118,30 @@ one_weyl s indices None d r r' t t' loaded h h' = absurd h
 one_weyl s indices (Some F) None r r' t t' loaded h h' = absurd h
 one_weyl s indices (Some F) (Some D) r r' t t' loaded h h' = answered_alike s h.0 h'.0 r r' t t' (one_weyl_text D indices h.0 h'.0 loaded h.1 h'.1) h.2 h'.2
 
+one_constant : (s : State) (p q : ℤ) (field : Option FiniteField) (d : Option Roots) (r r' : Reply) (t t' : State) → IfSome d IsLoaded
+    → MatchOption field ⊥ (λ F. MatchOption d ⊥ (λ D. AnswersConstant s D p q r t))
+    → MatchOption field ⊥ (λ F. MatchOption d ⊥ (λ D. AnswersConstant s D p q r' t')) → Same r r' t t'
+one_constant s p q None d r r' t t' loaded h h' = absurd h
+one_constant s p q (Some F) None r r' t t' loaded h h' = absurd h
+one_constant s p q (Some F) (Some D) r r' t t' loaded h h' = answered_alike s h.0 h'.0 r r' t t' (one_constant_text D p q h.0 h'.0 loaded h.1 h'.1) h.2 h'.2
+
+one_group : (s : State) (n : ℕ) (field : Option FiniteField) (d : Option Roots) (r r' : Reply) (t t' : State) → IfSome d IsLoaded
+    → MatchOption field ⊥ (λ F. MatchOption d ⊥ (λ D. LoadsGroup s n F D r t))
+    → MatchOption field ⊥ (λ F. MatchOption d ⊥ (λ D. LoadsGroup s n F D r' t')) → Same r r' t t'
+one_group s n None d r r' t t' loaded h h' = absurd h
+one_group s n (Some F) None r r' t t' loaded h h' = absurd h
+one_group s n (Some F) (Some D) r r' t t' loaded h h' = one_loading s n F D r r' t t' loaded h h'
+
 one_done : (s : State) (n : ℕ) (said : Line) (r r' : Reply) (t t' : State) → IsSoundState s → Does s n said r t → Does s n said r' t' → Same r r' t t'
 one_done s n line.Silent r r' t t' sound h h' = both h h'
 one_done s n (line.Field p k coeffs g) r r' t t' sound h h' = one_field s n p coeffs g r r' t t' h h'
 one_done s n (line.Datum d l) r r' t t' sound h h' = one_joined (is_whole (opened d l)) s n (opened d l) r r' t t' h h'
 one_done s n (line.Root v) r r' t t' sound h h' = one_in_datum s n (λ lines. with_root lines v) s.datum r r' t t' h h'
 one_done s n (line.Coroot v) r r' t t' sound h h' = one_in_datum s n (λ lines. with_coroot lines v) s.datum r r' t t' h h'
-one_done s n line.Load r r' t t' sound h h' = one_answer (record s { loaded = true }) loaded_text s.field (whole s.datum) r r' t t' h h'
-one_done s n (line.Form w) r r' t t' sound h h' = one_form s w s.field (whole s.datum) r r' t t' sound.sized h h'
+one_done s n line.Load r r' t t' sound h h' = one_group s n s.field (whole s.datum) r r' t t' sound.loaded h h'
+one_done s n (line.Form w) r r' t t' sound h h' = one_form s w s.field (whole s.datum) r r' t t' h h'
 one_done s n line.Roots r r' t t' sound h h' = one_answer s (λ F D. roots_text D) s.field (whole s.datum) r r' t t' h h'
+one_done s n (line.Constant p q) r r' t t' sound h h' = one_constant s p q s.field (whole s.datum) r r' t t' sound.loaded h h'
 one_done s n (line.Weyl indices) r r' t t' sound h h' = one_weyl s indices s.field (whole s.datum) r r' t t' sound.loaded h h'
 
 one_said : (s : State) (n : ℕ) (read : Result Line Fault) (r r' : Reply) (t t' : State) → IsSoundState s

@@ -1,33 +1,42 @@
 -- What is awaited tells what a session holds.
-use Rattle.std.proofs.Common.{◌≡◌, ℕ, ◌≤◌, Bool, true, false, cond, Option, Some, None, refl, sym, ap, ◌∙◌, subst, arith, Result, Ok, Err, length, List, pos}
+use Rattle.std.proofs.Common.{◌≡◌, ◌≢◌, ℕ, Bool, true, false, cond, Option, Some, None, refl, sym, ap, ◌∙◌, subst, arith, Result, Ok, Err, length, List, pos, zero, suc, negsuc, nat_abs}
 use Rattle.std.specs.Prelude.{⊤, ◌||◌, nat_lt, MatchResult, IfOk, ℤ}
 use Rattle.std.specs.List.{All}
 use Rattle.std.specs.Option.{IfSome, IsSome, IsSomeAnd}
 use Rattle.std.proofs.lemmas.Result.{IfOk-at_ok}
 use Rattle.std.proofs.lemmas.Bool.{false≢true}
-use Rattle.lie_datum.specs.RootList.{Roots}
+use Rattle.std.proofs.lemmas.Int.{ints}
+use Rattle.lie_const.specs.CommutatorTerms.{IsPair}
+use Rattle.lie_const.specs.ConstantTables.{ConstantTable}
+use Rattle.lie_datum.specs.RootList.{Roots, IsNumber}
+use Rattle.lie_datum.proofs.NumberLemmas.{some_within}
+use Rattle.lie_datum.proofs.SignedRoots.{opposite_number}
 use Rattle.lie_field.specs.FiniteField.{FiniteField}
 use Rattle.lie_field.specs.Quotient.{order}
-use Rattle.lie_letters.specs.Setting.{FrameData, dim}
+use Rattle.lie_letters.specs.Frames.{FrameData}
 use Rattle.lie_letters.specs.Spelled.{IsWordOver}
 use Rattle.lie_letters.specs.declared.letter.Letter.{Letter}
 use Rattle.lie_script.specs.Accepted.{Fits}
 use Rattle.lie_script.specs.Names.{none_listed}
-use Rattle.lie_script.specs.Numbers.{is_within}
+use Rattle.lie_script.specs.Numbers.{is_within, allows}
 use Rattle.lie_script.specs.Reading.{reads}
 use Rattle.lie_script.specs.Setting.{HasField, HasDatum, awaits_both, IsSetting, answer_of}
 use Rattle.lie_script.specs.Texts.{line_fault}
 use Rattle.lie_script.specs.declared.faults.Fault.{Fault}
 use Rattle.lie_script.specs.declared.faults.LineFault.{LineFault}
+use Rattle.lie_script.specs.declared.allowed.Allowed.TheVariants.{RootOf}
 use Rattle.lie_script.specs.declared.line.Line.{Line}
 use Rattle.lie_script.specs.declared.line.Line.TheVariants as line
 use Rattle.lie_script.specs.declared.sizes.Wants.{Wants}
 use Rattle.lie_script.specs.declared.sizes.Wants.TheVariants as wants
 use Rattle.lie_script.proofs.CallerLemmas.{accepted-fits, answer-keeps}
-use Rattle.lie_session.specs.DatumLines.{DatumLines, opened, with_root, with_coroot, datum_wants}
-use Rattle.lie_session.specs.Ready.{Holds, AreIndices, Ready}
-use Rattle.lie_session.specs.Replies.{InDatum, ReadsDatum, Refuses, Does, Replies, line_refusal, torus_frame}
-use Rattle.lie_session.specs.State.{State, whole, load_wants, stage_wants, wants_from, wants_of, dim_of, rank_of, count_of, order_of, sizes_of}
+use Rattle.lie_reply.specs.Commands.{AreIndices}
+use Rattle.lie_reply.specs.Forms.{frame_of}
+use Rattle.lie_script.specs.declared.sizes.Sizes.{Sizes}
+use Rattle.lie_session.specs.DatumLines.{DatumLines, opened, with_root, with_coroot}
+use Rattle.lie_session.specs.Ready.{Holds, Ready}
+use Rattle.lie_session.specs.Replies.{InDatum, ReadsDatum, Refuses, Does, Replies, line_refusal}
+use Rattle.lie_session.specs.State.{State, whole, wants_from, wants_of, dim_of, rank_of, count_of, order_of, sizes_of}
 use Rattle.lie_session.specs.declared.datum.DatumStage.{DatumStage}
 use Rattle.lie_session.specs.declared.datum.DatumStage.TheVariants as datum
 use Rattle.lie_session.specs.declared.reply.Reply.{Reply}
@@ -105,12 +114,20 @@ later_from (Some F) datum.Missing loaded h = absurd h
 later_from (Some F) (datum.Reading lines) loaded h = absurd (no_later (nat_lt (length lines.roots) lines.rank) h)
 later_from (Some F) (datum.Whole D) loaded h = (refl, refl)
 
-word_from : (field : Option FiniteField) (stage : DatumStage) (w : List Letter) → IsSome field × IsSome (whole stage)
-    → ((f : FrameData) → order f.field.given ≡ order_of field → dim f ≡ dim_of stage → IsWordOver f w) → IsSomeAnd field (λ F. IsSomeAnd (whole stage) (λ D. IsWordOver (torus_frame F D.base.dim) w))
-word_from None stage w there over = absurd (false≢true there.0)
-word_from (Some F) datum.Missing w there over = absurd (false≢true there.1)
-word_from (Some F) (datum.Reading lines) w there over = absurd (false≢true there.1)
-word_from (Some F) (datum.Whole D) w there over = over (torus_frame F D.base.dim) refl refl
+-- the sizes of a field and a datum
+abbrev sizes_from : Option FiniteField → DatumStage → Bool → Sizes
+sizes_from field stage loaded = record { d = dim_of stage; l = rank_of stage; m = count_of stage; q = order_of field; dim = 0; loaded = loaded }
+
+-- the word of a line is a word of the group, by every table of constants
+abbrev WordFor : Option FiniteField → DatumStage → List Letter → Type 0
+WordFor field stage w = IsSomeAnd field (λ F. IsSomeAnd (whole stage) (λ D. (c : ConstantTable) → IsWordOver (frame_of F D c) w))
+
+word_from : (field : Option FiniteField) (stage : DatumStage) (loaded : Bool) (w : List Letter) → IsSome field × IsSome (whole stage)
+    → ((f : FrameData) → HasField (sizes_from field stage loaded) f.field → HasDatum (sizes_from field stage loaded) f.datum → IsWordOver f w) → WordFor field stage w
+word_from None stage loaded w there over = absurd (false≢true there.0)
+word_from (Some F) datum.Missing loaded w there over = absurd (false≢true there.1)
+word_from (Some F) (datum.Reading lines) loaded w there over = absurd (false≢true there.1)
+word_from (Some F) (datum.Whole D) loaded w there over = λ c. over (frame_of F D c) refl (record { d_is = refl; l_is = refl; m_is = refl })
 
 indices_from : (field : Option FiniteField) (stage : DatumStage) (indices : List ℤ) → IsSome field × IsSome (whole stage)
     → All (λ i. is_within (pos 1) (pos (rank_of stage)) i ≡ true) indices → IsSomeAnd field (λ F. IsSomeAnd (whole stage) (λ D. AreIndices D indices))
@@ -119,6 +136,48 @@ indices_from (Some F) datum.Missing indices there within = absurd (false≢true 
 indices_from (Some F) (datum.Reading lines) indices there within = absurd (false≢true there.1)
 indices_from (Some F) (datum.Whole D) indices there within = within
 
+-- where `load` is awaited no group is loaded, and where a command is awaited one is
+is_late : Wants → Bool
+is_late wants.Command = true
+is_late _ = false
+
+late_load : is_late wants.Load ≡ false
+unfolding is_late
+late_load = refl
+
+late_command : is_late wants.Command ≡ true
+unfolding is_late
+late_command = refl
+
+loaded_from : (field : Option FiniteField) (stage : DatumStage) (loaded : Bool) → IsSome field × IsSome (whole stage) → is_late (wants_from field stage loaded) ≡ loaded
+unfolding is_late
+loaded_from None stage loaded there = absurd (false≢true there.0)
+loaded_from (Some F) datum.Missing loaded there = absurd (false≢true there.1)
+loaded_from (Some F) (datum.Reading lines) loaded there = absurd (false≢true there.1)
+loaded_from (Some F) (datum.Whole D) true there = refl
+loaded_from (Some F) (datum.Whole D) false there = refl
+
+-- signed numbers within the count name roots
+root_number : (D : Roots) (k : ℤ) → allows (RootOf (length D.positive)) k ≡ true → IsNumber D k
+root_number D (pos zero) h = absurd cc
+root_number D (pos (suc k)) h = some_within D.positive k (grind (arith, h))
+root_number D (negsuc k) h = (opposite_number D (pos (suc k)) (some_within D.positive k (grind (arith, h)))).0
+
+pair_of : (D : Roots) (p q : ℤ) → allows (RootOf (length D.positive)) p ≡ true → allows (RootOf (length D.positive)) q ≡ true → nat_abs p ≢ nat_abs q → IsPair D p q
+pair_of D p q h g apart = record {
+  left = root_number D p h;
+  right = root_number D q g;
+  unequal = λ e. apart (ap nat_abs (sym e));
+  independent = λ e. apart (omega (arith, ints, ap nat_abs e));
+}
+
+pair_from : (field : Option FiniteField) (stage : DatumStage) (p q : ℤ) → IsSome field × IsSome (whole stage)
+    → allows (RootOf (count_of stage)) p ≡ true → allows (RootOf (count_of stage)) q ≡ true → nat_abs p ≢ nat_abs q → IsSomeAnd field (λ F. IsSomeAnd (whole stage) (λ D. IsPair D p q))
+pair_from None stage p q there h g apart = absurd (false≢true there.0)
+pair_from (Some F) datum.Missing p q there h g apart = absurd (false≢true there.1)
+pair_from (Some F) (datum.Reading lines) p q there h g apart = absurd (false≢true there.1)
+pair_from (Some F) (datum.Whole D) p q there h g apart = pair_of D p q h g apart
+
 -- a session can do what a line says that fits
 ready_from : (s : State) (said : Line) → Holds s → Fits (wants_of s) (sizes_of s) said → Ready s said
 ready_from s line.Silent holds fits = tt
@@ -126,9 +185,15 @@ ready_from s (line.Field p k coeffs g) holds fits = (fits.1, fits.2)
 ready_from s (line.Datum d l) holds fits = (unloaded_datum s.field s.datum s.loaded holds fits.0, fits.2, omega (arith, fits.2, fits.3))
 ready_from s (line.Root v) holds fits = reading_from s.field s.datum s.loaded (length v) holds (subst IsVector (sym fits.0) tt) fits.1
 ready_from s (line.Coroot v) holds fits = reading_from s.field s.datum s.loaded (length v) holds (subst IsVector (sym fits.0) tt) fits.1
-ready_from s line.Load holds fits = later_from s.field s.datum s.loaded (subst IsLater (sym fits) tt)
-ready_from s (line.Form w) holds fits = word_from s.field s.datum w (later_from s.field s.datum s.loaded (subst IsLater (sym fits.0) tt)) fits.1
+ready_from s line.Load holds fits =
+    let there = later_from s.field s.datum s.loaded (subst IsLater (sym fits) tt) in (sym (loaded_from s.field s.datum s.loaded there) ∙ ap is_late fits ∙ late_load, there.0, there.1)
+ready_from s (line.Form w) holds fits =
+    let there = later_from s.field s.datum s.loaded (subst IsLater (sym fits.0) tt) in
+    (sym (loaded_from s.field s.datum s.loaded there) ∙ ap is_late fits.0 ∙ late_command, word_from s.field s.datum s.loaded w there fits.2, fits.1)
 ready_from s line.Roots holds fits = later_from s.field s.datum s.loaded (subst IsLater (sym fits) tt)
+ready_from s (line.Constant p q) holds fits =
+    let there = later_from s.field s.datum s.loaded (subst IsLater (sym fits.0) tt) in
+    (sym (loaded_from s.field s.datum s.loaded there) ∙ ap is_late fits.0 ∙ late_command, pair_from s.field s.datum p q there fits.1 fits.2 fits.3)
 ready_from s (line.Weyl indices) holds fits = indices_from s.field s.datum indices (later_from s.field s.datum s.loaded (subst IsLater (sym fits.0) tt)) fits.1
 
 -- a session can do what a line says that was answered
@@ -154,6 +219,16 @@ pub replies_fault : (s : State) (n : ℕ) (bytes : List ℕ) (reply : Reply) (ne
     → answer ≡ Err why → Refuses s (line_refusal n why) reply next → Replies s n bytes reply next
 replies_fault s n bytes reply next answer why is err h =
     replied_so s n reply next (reads (wants_of s) (sizes_of s) none_listed bytes) (Err why) (sym err ∙ is) h
+
+both_held : (P : FiniteField → Roots → Type 0) (field : Option FiniteField) (stage : DatumStage) (F : FiniteField) (D : Roots) → IsSomeAnd field (λ F. IsSomeAnd (whole stage) (λ D. P F D))
+    → field ≡ Some F → stage ≡ datum.Whole D → P F D
+both_held P field stage F D h field_is stage_is =
+    subst (λ (z : DatumStage). IsSomeAnd (whole z) (λ D. P F D)) stage_is (subst (λ (o : Option FiniteField). IsSomeAnd o (λ F. IsSomeAnd (whole stage) (λ D. P F D))) field_is h)
+
+-- the word of a line is a word of the group
+pub form_over : (s : State) (said : Line) (w : List Letter) (F : FiniteField) (D : Roots) (c : ConstantTable) → Ready s said → said ≡ line.Form w → s.field ≡ Some F → s.datum ≡ datum.Whole D → IsWordOver (frame_of F D c) w
+form_over s said w F D c ready says field_is datum_is =
+    both_held (λ F D. (c : ConstantTable) → IsWordOver (frame_of F D c) w) s.field s.datum F D (subst (Ready s) says ready).1 field_is datum_is c
 
 -- the lines of a datum are opened
 pub does_datum : {E : Type 0} (s : State) (n d l : ℕ) (said : Line) (lines : DatumLines) (result : Result Reply E) (next : State) → said ≡ line.Datum d l → lines ≡ opened d l

@@ -1,5 +1,5 @@
 -- The status by the kinds of the replies, and the state after them.
-use Rattle.std.proofs.Common.{◌≡◌, ◌≢◌, ℕ, ◌+◌, Bool, true, false, cond, ◌||◌, List, [], ◌∷◌, ◌++◌, Option, Some, refl, sym, ap, ◌∙◌, subst, arith}
+use Rattle.std.proofs.Common.{◌≡◌, ◌≢◌, ℕ, ◌+◌, Bool, true, false, cond, ◌||◌, List, [], ◌∷◌, ◌++◌, Some, refl, sym, ap, ◌∙◌, subst, arith}
 use Rattle.std.specs.Prelude.{not, nat_eq}
 use Rattle.std.specs.Bool.{MatchBool}
 use Rattle.std.proofs.lemmas.Bool.{false≢true}
@@ -18,7 +18,6 @@ use Rattle.lie_session.specs.declared.mode.Mode.TheVariants.{Run, Check}
 use Rattle.lie_session.specs.declared.reply.Kind.{Kind}
 use Rattle.lie_session.specs.declared.reply.Kind.TheVariants as kind
 use Rattle.lie_session.specs.declared.reply.Reply.{Reply}
-use Rattle.lie_session.specs.declared.status.Status.{Status}
 use Rattle.lie_session.specs.declared.status.Status.TheVariants.{Done, Refused, LoadRefused}
 use Rattle.lie_session.proofs.ChangeLemmas.{changes_from, sound_from, IsSoundState}
 

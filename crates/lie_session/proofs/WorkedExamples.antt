@@ -1,12 +1,12 @@
 -- The definitions at work: lines, the lines of a datum, what is awaited, and what the command line asks for.
-use Rattle.std.specs.Prelude.{◌≡◌, refl, ℕ, true, false, pos, negsuc, List, [], ◌∷◌, codes, Some, None}
+use Rattle.std.specs.Prelude.{◌≡◌, refl, true, false, pos, [], ◌∷◌, codes, Some, None}
 use Rattle.lie_script.specs.declared.sizes.Wants.TheVariants as wants
 use Rattle.lie_session.specs.DatumLines.{DatumLines, opened, with_root, with_coroot, is_whole}
 use Rattle.lie_session.specs.Lines.{lines_of}
 use Rattle.lie_session.specs.Runs.{mode_of}
 use Rattle.lie_session.specs.State.{fresh, stage_wants, wants_of}
 use Rattle.lie_session.specs.declared.datum.DatumStage.TheVariants as datum
-use Rattle.lie_session.specs.declared.mode.Mode.TheVariants.{Run, Check}
+use Rattle.lie_session.specs.declared.mode.Mode.TheVariants.{Check}
 
 -- one CR is dropped, an empty line counts, and an LF at the end starts no line
 three_lines : lines_of (codes "load\r\n\nform 1\r\r\n") ≡ codes "load" ∷ [] ∷ codes "form 1\r" ∷ []

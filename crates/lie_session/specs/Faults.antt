@@ -1,6 +1,10 @@
--- The texts of the faults of fields and of root data.
+-- The texts of the faults of fields, of root data, of structure constants, of signs and of braid values.
 -- Own.
-use Rattle.std.specs.Prelude.{ℕ, pos, List, [], ◌∷◌, take, codes}
+use Rattle.std.specs.Prelude.{ℕ, ℤ, pos, List, [], ◌∷◌, take, codes}
+use Rattle.lie_audit.specs.declared.faults.SignFault.{SignFault}
+use Rattle.lie_audit.specs.declared.faults.SignFault.TheVariants as signs
+use Rattle.lie_const.specs.declared.faults.ConstFault.{ConstFault}
+use Rattle.lie_const.specs.declared.faults.ConstFault.TheVariants as constants
 use Rattle.lie_datum.specs.declared.faults.DatumFault.{DatumFault}
 use Rattle.lie_datum.specs.declared.faults.DatumFault.TheVariants as datum
 use Rattle.lie_datum.specs.declared.faults.Side.TheVariants as side
@@ -28,3 +32,18 @@ datum_refusal n l (datum.Zero i j) = refusal n (codes "zero") (pos i ∷ pos j �
 datum_refusal n l datum.Roots = refusal n (codes "roots") []
 datum_refusal n l (datum.Mixed coefficients) = refusal n (codes "mixed") (take l coefficients)
 datum_refusal n l (datum.Repeated j k) = refusal n (codes "repeated") (j ∷ k ∷ [])
+
+-- the refusal of `load` for a fault of the constants; want of memory has none
+abbrev pub constants_refusal : ℕ → ConstFault → List ℕ
+constants_refusal n constants.NoMemory = []
+constants_refusal n (constants.Constant r s a e) = refusal n (codes "constant") (r ∷ s ∷ a ∷ e ∷ [])
+constants_refusal n (constants.Fraction r s i j) = refusal n (codes "fraction") (r ∷ s ∷ pos i ∷ pos j ∷ [])
+
+-- the refusal of `load` for a sign; want of memory has none
+abbrev pub signs_refusal : ℕ → SignFault → List ℕ
+signs_refusal n signs.NoMemory = []
+signs_refusal n (signs.Sign i s c) = refusal n (codes "sign") (pos i ∷ s ∷ c ∷ [])
+
+-- the refusal of `load` for a braid value
+abbrev pub braid_refusal : ℕ → ℕ → ℕ → ℤ → List ℕ
+braid_refusal n i j c = refusal n (codes "braid") (pos i ∷ pos j ∷ c ∷ [])

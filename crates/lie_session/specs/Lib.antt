@@ -1,7 +1,6 @@
 pub mod Lines
 pub mod DatumLines
 pub mod State
-pub mod Texts
 pub mod Faults
 pub mod Replies
 pub mod Ready

@@ -5,8 +5,18 @@
 --   answer     an accepted line with a reply
 --   refused    a line that is refused after `load`
 --   fatal      a refusal up to and with `load`, which ends the session
-use Rattle.std.specs.Prelude.{◌≡◌, ◌≢◌, ◌⊎◌, ◌↔◌, ℕ, ◌+◌, ◌-◌, ◌^◌, min, if◌then◌else◌, ℤ, nat_abs, true, List, [], ◌∷◌, map, Some, Ok, Err, MatchOption, MatchResult}
+use Rattle.std.specs.Prelude.{◌≡◌, ◌≢◌, ◌⊎◌, ℕ, ◌+◌, ◌-◌, ◌^◌, min, if◌then◌else◌, ℤ, nat_abs, true, List, [], map, Some, Ok, Err, MatchOption, MatchResult}
 use Rattle.std.specs.Bool.{MatchBool}
+use Rattle.lie_audit.specs.SignAnswers.{AreTestedSigns, IsSignFault}
+use Rattle.lie_audit.specs.declared.faults.SignFault.{SignFault}
+use Rattle.lie_audit.specs.declared.faults.SignFault.TheVariants as sign_fault
+use Rattle.lie_const.specs.Adjoint.{IsAdjointOf}
+use Rattle.lie_const.specs.Braids.{HasBraids, IsFirstBadBraid}
+use Rattle.lie_const.specs.ConstantTables.{ConstantTable, LoadsConstants}
+use Rattle.lie_const.specs.Modules.{Module}
+use Rattle.lie_const.specs.Signs.{SignTable, eta_of}
+use Rattle.lie_const.specs.declared.faults.ConstFault.{ConstFault}
+use Rattle.lie_const.specs.declared.faults.ConstFault.TheVariants as constants_fault
 use Rattle.lie_datum.specs.Load.{Loads}
 use Rattle.lie_datum.specs.RootList.{Roots}
 use Rattle.lie_datum.specs.declared.faults.DatumFault.{DatumFault}
@@ -16,10 +26,7 @@ use Rattle.lie_field.specs.Quotient.{field_data}
 use Rattle.lie_field.specs.Faults.{IsSized, IsFault}
 use Rattle.lie_field.specs.declared.faults.FieldFault.{FieldFault}
 use Rattle.lie_field.specs.declared.faults.FieldFault.TheVariants as field_fault
-use Rattle.lie_letters.specs.Setting.{FrameData}
-use Rattle.lie_letters.specs.Spelled.{JoinedSpelled}
 use Rattle.lie_letters.specs.declared.letter.Letter.{Letter}
-use Rattle.lie_letters.specs.declared.letter.Letter.TheVariants.{H}
 use Rattle.lie_script.specs.Names.{none_listed}
 use Rattle.lie_script.specs.Reading.{reads}
 use Rattle.lie_script.specs.Texts.{line_fault, name_of, refusal}
@@ -27,11 +34,11 @@ use Rattle.lie_script.specs.declared.faults.FaultName.TheVariants as fault
 use Rattle.lie_script.specs.declared.faults.LineFault.{LineFault}
 use Rattle.lie_script.specs.declared.line.Line.{Line}
 use Rattle.lie_script.specs.declared.line.Line.TheVariants as line
-use Rattle.lie_weyl.specs.WeylElement.{Spells, IsLength, IsLeastWord}
+use Rattle.lie_reply.specs.Commands.{FormTextOf, ConstantTextOf, WeylTextOf}
+use Rattle.lie_reply.specs.Texts.{loaded_text, roots_text}
 use Rattle.lie_session.specs.DatumLines.{DatumLines, opened, with_root, with_coroot, is_whole, base_of}
-use Rattle.lie_session.specs.Faults.{field_refusal, datum_refusal}
+use Rattle.lie_session.specs.Faults.{field_refusal, datum_refusal, constants_refusal, signs_refusal, braid_refusal}
 use Rattle.lie_session.specs.State.{State, whole, wants_of, sizes_of}
-use Rattle.lie_session.specs.Texts.{loaded_text, form_text, roots_text, weyl_text}
 use Rattle.lie_session.specs.declared.datum.DatumStage.{DatumStage}
 use Rattle.lie_session.specs.declared.datum.DatumStage.TheVariants as datum
 use Rattle.lie_session.specs.declared.reply.Kind.TheVariants as kind
@@ -84,27 +91,33 @@ InDatum (datum.Whole D) P = ⊥
 abbrev pub WithBoth : State → (FiniteField → Roots → Type 0) → Type 0
 WithBoth s P = MatchOption s.field ⊥ (λ F. MatchOption (whole s.datum) ⊥ (λ D. P F D))
 
+-- the braid values of the signs are 1, and the group is loaded; else the line is refused for the first that is not
+abbrev pub LoadsBraids : State → ℕ → FiniteField → Roots → SignTable → Reply → State → Type 0
+LoadsBraids s n F D t reply next =
+    (HasBraids D (eta_of t) × Answers (record s { loaded = true }) (loaded_text F D) reply next)
+    ⊎ ((i j : ℕ) × (c : ℤ) × IsFirstBadBraid D (eta_of t) i j c × Refuses s (braid_refusal n i j c) reply next)
+
+-- the signs of the adjoint module are as they should be, and the braid values are tested; else the line is refused for the first that is not
+abbrev pub LoadsSigns : State → ℕ → FiniteField → Roots → Reply → State → Type 0
+LoadsSigns s n F D reply next =
+    ((v : Module) × (t : SignTable) × IsAdjointOf D v × AreTestedSigns D v t × LoadsBraids s n F D t reply next)
+    ⊎ ((v : Module) × (why : SignFault) × IsAdjointOf D v × (why ≢ sign_fault.NoMemory) × IsSignFault D v why × Refuses s (signs_refusal n why) reply next)
+
+-- the constants of the datum are there, and the signs are tested; else the line is refused for the first constant that fails
+abbrev pub LoadsGroup : State → ℕ → FiniteField → Roots → Reply → State → Type 0
+LoadsGroup s n F D reply next =
+    ((c : ConstantTable) × LoadsConstants D (Ok c) × LoadsSigns s n F D reply next)
+    ⊎ ((why : ConstFault) × (why ≢ constants_fault.NoMemory) × LoadsConstants D (Err why) × Refuses s (constants_refusal n why) reply next)
+
 -- ---- commands
 
--- what words over a field and d coordinates speak of
-abbrev pub torus_frame : FiniteField → ℕ → FrameData
-torus_frame F d = record { field = F; axes = d }
+-- the answer is the text of the form of the word
+abbrev pub AnswersForm : State → FiniteField → Roots → List Letter → Reply → State → Type 0
+AnswersForm s F D w reply next = (text : List ℕ) × FormTextOf F D w text × Answers s text reply next
 
--- the text of a torus vector whose letter a chain joins to the word
-abbrev pub FormTextOf : FiniteField → ℕ → List Letter → List ℕ → Type 0
-FormTextOf F d w text = (t : List ℕ) × JoinedSpelled (torus_frame F d) (H t ∷ []) w × (text ≡ form_text t)
-
--- the answer is the text of a form of the word
-abbrev pub AnswersForm : State → FiniteField → ℕ → List Letter → Reply → State → Type 0
-AnswersForm s F d w reply next = (text : List ℕ) × FormTextOf F d w text × Answers s text reply next
-
--- the text of the element with these images: its length, its least word and the images
-abbrev pub TellsElement : Roots → List ℤ → List ℕ → Type 0
-TellsElement D images text = (n : ℕ) × (least : List ℕ) × IsLength D images n × IsLeastWord D least images × (text ≡ weyl_text n least images)
-
--- the text of the product of the simple reflections with these indices
-abbrev pub WeylTextOf : Roots → List ℤ → List ℕ → Type 0
-WeylTextOf D indices text = (images : List ℤ) × Spells D (map nat_abs indices) images × TellsElement D images text
+-- the answer is the text of N_pq and of the terms
+abbrev pub AnswersConstant : State → Roots → ℤ → ℤ → Reply → State → Type 0
+AnswersConstant s D p q reply next = (text : List ℕ) × ConstantTextOf D p q text × Answers s text reply next
 
 -- the answer is the text of the product
 abbrev pub AnswersWeyl : State → Roots → List ℤ → Reply → State → Type 0
@@ -119,9 +132,10 @@ Does s n (line.Field p k coeffs g) reply next = KeepsField s n p coeffs g reply 
 Does s n (line.Datum d l) reply next = ReadsDatum s n (opened d l) reply next
 Does s n (line.Root v) reply next = InDatum s.datum (λ lines. ReadsDatum s n (with_root lines v) reply next)
 Does s n (line.Coroot v) reply next = InDatum s.datum (λ lines. ReadsDatum s n (with_coroot lines v) reply next)
-Does s n line.Load reply next = WithBoth s (λ F D. Answers (record s { loaded = true }) (loaded_text F D) reply next)
-Does s n (line.Form w) reply next = WithBoth s (λ F D. AnswersForm s F D.base.dim w reply next)
+Does s n line.Load reply next = WithBoth s (λ F D. LoadsGroup s n F D reply next)
+Does s n (line.Form w) reply next = WithBoth s (λ F D. AnswersForm s F D w reply next)
 Does s n line.Roots reply next = WithBoth s (λ F D. Answers s (roots_text D) reply next)
+Does s n (line.Constant p q) reply next = WithBoth s (λ F D. AnswersConstant s D p q reply next)
 Does s n (line.Weyl indices) reply next = WithBoth s (λ F D. AnswersWeyl s D indices reply next)
 
 -- the refusal of a line
@@ -139,9 +153,3 @@ abbrev pub RepliesAtEnd : State → ℕ → Reply → State → Type 0
 RepliesAtEnd s n reply next =
     (reply ≡ (if s.loaded then record { kind = kind.Silent; bytes = [] } else record { kind = kind.Fatal; bytes = refusal n (name_of fault.End) [] }))
     × (next ≡ record s { ended = true })
-
--- in a field within the limits, two words have the same reply exactly if a chain joins them
-abbrev pub RepliesTellWords : Type 0
-RepliesTellWords =
-    (F : FiniteField) (d : ℕ) (w v : List Letter) (a b : List ℕ) → IsSized F.given → FormTextOf F d w a → FormTextOf F d v b
-    → ((a ≡ b) ↔ JoinedSpelled (torus_frame F d) w v)

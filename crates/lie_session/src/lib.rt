@@ -3,8 +3,9 @@
 //! `Session::line` replies to one line, and `lie` to all lines of a source. Contracts cite
 //! `specs/State.antt` (what a session holds, and the line that it awaits), `specs/Replies.antt` (the
 //! reply to a line), `specs/Output.antt` (the replies to a script) and `specs/Runs.antt` (the cause of
-//! each status). What a line says is read by `lie_script`. The crate stands on `lie_kit`, `lie_field`,
-//! `lie_datum`, `lie_weyl`, `lie_letters` and `lie_script`.
+//! each status). What a line says is read by `lie_script`, and commands are
+//! answered by `lie_reply`. The crate stands on these, `lie_kit`, `lie_field`, `lie_datum`, `lie_const`,
+//! `lie_weight`, `lie_audit` and `lie_letters`.
 #![tactic(auto)]
 
 mod cutting;
@@ -12,13 +13,10 @@ mod datum;
 mod input;
 mod mode;
 mod output;
-mod product;
 mod program;
 mod reply;
 mod session;
 mod status;
-mod texts;
-mod weyl;
 
 pub use mode::Mode;
 pub use program::lie;

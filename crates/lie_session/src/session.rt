@@ -1,24 +1,25 @@
 //! A session over the lines of a script.
-ghost use Rattle.std.specs.Prelude.{◌≡◌, ◌≢◌, ◌≤◌, true, false, [], Some, pos, nat_abs, map, length, All, IfOk, OnErr};
-ghost use Rattle.std.specs.Option.{IsSome};
-ghost use Rattle.lie_letters.specs.Spelled.{IsWordOver};
+ghost use Rattle.std.specs.Prelude.{◌≡◌, ◌≢◌, ◌≤◌, true, false, [], ◌∷◌, Some, Ok, pos, nat_abs, map, length, All, IfOk, OnErr};
+ghost use Rattle.std.specs.Option.{IsSome, IsSomeAnd};
+ghost use Rattle.lie_const.specs.ConstantTables.{LoadsConstants};
+ghost use Rattle.lie_const.specs.Signs.{IsSignTable};
 ghost use Rattle.lie_script.specs.Numbers.{is_within};
 ghost use Rattle.lie_script.specs.Texts.{refusal as refusal_text};
 ghost use Rattle.lie_session.specs.Changes.{Changes};
-ghost use Rattle.lie_session.specs.Faults.{field_refusal, datum_refusal};
-ghost use Rattle.lie_session.specs.Replies.{Replies, RepliesAtEnd, Refuses, KeepsField, KeepsDatum, ReadsDatum, Does, FormTextOf, torus_frame};
+ghost use Rattle.lie_session.specs.Faults.{field_refusal, datum_refusal, constants_refusal, signs_refusal, braid_refusal};
+ghost use Rattle.lie_session.specs.Replies.{Replies, RepliesAtEnd, Refuses, KeepsField, KeepsDatum, ReadsDatum, LoadsGroup, LoadsSigns, LoadsBraids, WithBoth, Does};
 ghost use Rattle.lie_session.specs.State.{fresh, whole, wants_of, sizes_of};
 ghost use Rattle.lie_session.specs.Ready.{Ready};
 
 use crate::datum::{DatumLines, DatumStage};
-use crate::product::product;
 use crate::reply::{Kind, Reply};
-use crate::texts::{form_text, loaded_text, roots_text};
-use crate::weyl::weyl_text;
-use lie_datum::{Datum, DatumFault, Side};
+use lie_audit::{BraidFault, SignFault, braid, signs};
+use lie_const::{ConstFault, Constants, Signs};
+use lie_datum::{Datum, DatumFault, RootId, Side};
 use lie_field::{Field, FieldFault};
-use lie_letters::Word;
+use lie_reply::{constant_text, form_text, loaded_text, roots_text, weyl_text};
 use lie_script::{FaultName, Line, NoNames, Numbers, Sizes, Text, Wants, read_line, refusal};
+use lie_weight::Module;
 use std::alloc::{AllocError, Global};
 use std::marker::Model;
 
@@ -42,16 +43,6 @@ fn answer(bytes: Text) -> Reply
     }
 }
 
-/// The text of the form of a word of torus letters.
-fn reply_to_form(alloc: Global, field: &Field, datum: &Datum, w: &Word) -> Result<Text, AllocError>
-    requires { IsWordOver (torus_frame field.now datum.now.base.dim) w.now }
-    ensures { IfOk result (λ text. FormTextOf field.now datum.now.base.dim w.now text) }
-{
-    datum.loaded();
-    let product = product(field, datum.d(), w.letters());
-    form_text(alloc, &product)
-}
-
 /// The numbers of coefficients.
 fn residues(alloc: Global, coeffs: &Numbers) -> Result<Vec<u32>, AllocError>
     requires { All (λ c. is_within (pos 0) (pos 1000000) c ≡ true) coeffs.now }
@@ -65,11 +56,20 @@ fn residues(alloc: Global, coeffs: &Numbers) -> Result<Vec<u32>, AllocError>
     Ok(list)
 }
 
+/// The numbers of two roots, and two numbers more.
+fn with_roots(r: RootId, s: RootId, a: i128, b: i128) -> [i128; 4]
+    ensures { result ≡ r ∷ s ∷ a ∷ b ∷ [] }
+{
+    [r.number() as i128, s.number() as i128, a, b]
+}
+
 /// A session over the lines of a script.
 #[derive(Drop)]
 pub struct Session {
     field: Option<Field>,
     datum: DatumStage,
+    /// Those of the datum, once a group is loaded.
+    constants: Option<Constants>,
     loaded: bool,
     refusals: u64,
     ended: bool,
@@ -79,12 +79,13 @@ impl Model for Session {
     ghost use Rattle.std.specs.Prelude.{◌≡◌, true};
     ghost use Rattle.std.specs.Option.{IsSome};
     ghost use Rattle.lie_session.specs.State.{State, whole};
+    ghost use Rattle.lie_session.specs.Ready.{HasConstants};
 
     ghost Value = { State };
 
     ghost view = { λ s. record { field = s.field; datum = s.datum; loaded = s.loaded; refusals = s.refusals; ended = s.ended } };
 
-    ghost invariant = { λ s. s.loaded ≡ true → IsSome s.field × IsSome (whole s.datum) };
+    ghost invariant = { λ s. (s.loaded ≡ true → IsSome s.field × IsSome (whole s.datum)) × (s.loaded ≡ true → HasConstants s.datum s.constants) };
 }
 
 impl Session {
@@ -95,6 +96,7 @@ impl Session {
         Session {
             field: None,
             datum: DatumStage::Missing,
+            constants: None,
             loaded: false,
             refusals: 0,
             ended: false,
@@ -170,6 +172,17 @@ impl Session {
         match (&self.field, &self.datum) {
             (Some(field), DatumStage::Whole(datum)) => (field, datum),
             _ => unreachable!(),
+        }
+    }
+
+    /// The constants of a loaded group.
+    fn constants(&self) -> &Constants
+        requires { self.now.loaded ≡ true }
+        ensures { IsSomeAnd (whole self.now.datum) (λ D. LoadsConstants D (Ok result.now)) }
+    {
+        match &self.constants {
+            Some(constants) => constants,
+            None => unreachable!(),
         }
     }
 
@@ -263,6 +276,67 @@ impl Session {
         }
     }
 
+    /// Refuses `load` for a fault of the constants.
+    fn refuse_constants(
+        &mut self,
+        alloc: Global,
+        number: u64,
+        fault: &ConstFault,
+    ) -> Result<Reply, AllocError>
+        ensures refuses { IfOk result (λ reply. Refuses self.old (constants_refusal number fault.now) reply self.new) }
+        ensures named { IfOk result (λ reply. fault.now ≢ ConstFault.NoMemory) }
+    {
+        match fault {
+            ConstFault::NoMemory => Err(AllocError),
+            ConstFault::Constant(r, s, a, e) => self.refuse(
+                alloc,
+                number,
+                b"constant",
+                &with_roots(*r, *s, *a, *e),
+            ),
+            ConstFault::Fraction(r, s, i, j) => self.refuse(
+                alloc,
+                number,
+                b"fraction",
+                &with_roots(*r, *s, *i as i128, *j as i128),
+            ),
+        }
+    }
+
+    /// Refuses `load` for a fault of the signs.
+    fn refuse_signs(
+        &mut self,
+        alloc: Global,
+        number: u64,
+        fault: &SignFault,
+    ) -> Result<Reply, AllocError>
+        ensures refuses { IfOk result (λ reply. Refuses self.old (signs_refusal number fault.now) reply self.new) }
+        ensures named { IfOk result (λ reply. fault.now ≢ SignFault.NoMemory) }
+    {
+        match fault {
+            SignFault::NoMemory => Err(AllocError),
+            SignFault::Sign(i, s, value) => self.refuse(
+                alloc,
+                number,
+                b"sign",
+                &[*i as i128, s.number() as i128, *value],
+            ),
+        }
+    }
+
+    /// Refuses `load` for a braid value.
+    fn refuse_braid(
+        &mut self,
+        alloc: Global,
+        number: u64,
+        fault: &BraidFault,
+    ) -> Result<Reply, AllocError>
+        ensures { IfOk result (λ reply. Refuses self.old (braid_refusal number fault.now.i fault.now.j fault.now.value) reply self.new) }
+    {
+        let BraidFault { i, j, value } = fault;
+        self.refuse(alloc, number, b"braid", &[*i as i128, *j as i128, *value])
+    }
+
     /// Keeps the field of the numbers of a line.
     fn keep_field(
         &mut self,
@@ -294,6 +368,7 @@ impl Session {
         number: u64,
         lines: &DatumLines,
     ) -> Result<Reply, AllocError>
+        requires { self.old.loaded ≡ false }
         ensures { IfOk result (λ reply. KeepsDatum self.old number lines.now reply self.new) }
     {
         match lines.load(alloc) {
@@ -322,6 +397,66 @@ impl Session {
         Ok(silent(alloc))
     }
 
+    /// Loads the group of the field and the datum.
+    fn load(&mut self, alloc: Global, number: u64) -> Result<Reply, AllocError>
+        requires early { self.old.loaded ≡ false }
+        requires field { IsSome self.old.field }
+        requires datum { IsSome (whole self.old.datum) }
+        ensures { IfOk result (λ reply. WithBoth self.old (λ F D. LoadsGroup self.old number F D reply self.new)) }
+    {
+        let (field, datum) = self.both();
+        match Constants::load(alloc, datum) {
+            Ok(constants) => self.load_signs(alloc, number, constants),
+            Err(fault) => self.refuse_constants(alloc, number, &fault),
+        }
+    }
+
+    /// Loads the group of the field, the datum and its constants.
+    fn load_signs(
+        &mut self,
+        alloc: Global,
+        number: u64,
+        constants: Constants,
+    ) -> Result<Reply, AllocError>
+        requires early { self.old.loaded ≡ false }
+        requires field { IsSome self.old.field }
+        requires constants { IsSomeAnd (whole self.old.datum) (λ D. LoadsConstants D (Ok constants)) }
+        ensures { IfOk result (λ reply. WithBoth self.old (λ F D. LoadsSigns self.old number F D reply self.new)) }
+    {
+        let (_field, datum) = self.both();
+        let adjoint = Module::adjoint(alloc, datum, &constants)?;
+        match signs(alloc, datum, &adjoint) {
+            Ok(signs) => self.load_braids(alloc, number, constants, &signs),
+            Err(fault) => self.refuse_signs(alloc, number, &fault),
+        }
+    }
+
+    /// Loads the group of the field, the datum, its constants and its signs.
+    fn load_braids(
+        &mut self,
+        alloc: Global,
+        number: u64,
+        constants: Constants,
+        signs: &Signs,
+    ) -> Result<Reply, AllocError>
+        requires early { self.old.loaded ≡ false }
+        requires field { IsSome self.old.field }
+        requires constants { IsSomeAnd (whole self.old.datum) (λ D. LoadsConstants D (Ok constants)) }
+        requires signs { IsSomeAnd (whole self.old.datum) (λ D. IsSignTable D signs.now) }
+        ensures { IfOk result (λ reply. WithBoth self.old (λ F D. LoadsBraids self.old number F D signs.now reply self.new)) }
+    {
+        let (field, datum) = self.both();
+        match braid(datum, signs) {
+            Ok(()) => {
+                let text = loaded_text(alloc, field, datum)?;
+                self.constants = Some(constants);
+                self.loaded = true;
+                Ok(answer(text))
+            }
+            Err(fault) => self.refuse_braid(alloc, number, &fault),
+        }
+    }
+
     /// Does what a line says.
     fn obey(&mut self, alloc: Global, number: u64, line: Line) -> Result<Reply, AllocError>
         requires { Ready self.old line }
@@ -341,19 +476,20 @@ impl Session {
                 let lines = self.datum.with_coroot(alloc, v.list())?;
                 self.read_datum(alloc, number, lines)
             }
-            Line::Load => {
-                let (field, datum) = self.both();
-                let text = loaded_text(alloc, field, datum)?;
-                self.loaded = true;
-                Ok(answer(text))
-            }
+            Line::Load => self.load(alloc, number),
             Line::Form(w) => {
                 let (field, datum) = self.both();
-                Ok(answer(reply_to_form(alloc, field, datum, &w)?))
+                let text = form_text(alloc, field, datum, self.constants(), &w)?;
+                Ok(answer(text))
             }
             Line::Roots => {
                 let (_field, datum) = self.both();
                 Ok(answer(roots_text(alloc, datum)?))
+            }
+            Line::Constant { r, s } => {
+                let (_field, datum) = self.both();
+                let text = constant_text(alloc, datum, self.constants(), r, s)?;
+                Ok(answer(text))
             }
             Line::Weyl(indices) => {
                 let (_field, datum) = self.both();

@@ -23,3 +23,11 @@ pub const SL3: &str =
 /// The simply connected group of type B_2 over the field of three elements, up to `load`.
 pub const B2: &str =
     "field 3 1 0 2\ndatum 2 2\nroot 2 -1\nroot -2 2\ncoroot 1 0\ncoroot 0 1\nload\n";
+
+/// The simply connected group of type B_2 over the field of two elements, up to `load`.
+pub const B2_OVER_TWO: &str =
+    "field 2 1 0 1\ndatum 2 2\nroot 2 -1\nroot -2 2\ncoroot 1 0\ncoroot 0 1\nload\n";
+
+/// The group of type G_2 over the field of five elements, up to `load`.
+pub const G2: &str =
+    "field 5 1 0 2\ndatum 2 2\nroot 2 -1\nroot -3 2\ncoroot 1 0\ncoroot 0 1\nload\n";

@@ -1,5 +1,5 @@
 //! The program on scripts in memory.
-use crate::{B2, PRODUCT, SL2, SL3, TORUS};
+use crate::{B2, B2_OVER_TWO, G2, PRODUCT, SL2, SL3, TORUS};
 use lie_kit::{MemSink, MemSource};
 use lie_script::Text;
 use lie_session::{Kind, Session, Status, lie};
@@ -251,6 +251,76 @@ fn weyl_elements(rt: HostRuntime) -> Result<(), Fail> {
 }
 
 #[test]
+fn constants(rt: HostRuntime) -> Result<(), Fail> {
+    // the lines from line 8 on after G2, what they give after the reply to `load`, the status
+    let cases = [
+        (
+            "constant 1 2\nconstant 2 1\nconstant 3 4\nconstant 5 6\nconstant 1 -1\n",
+            "loaded 5 2 12 -\n1 | 1 1 3 1 | 2 1 4 1 | 3 1 5 1 | 3 2 6 1\n-1 | 1 1 3 -1 | 1 2 4 1 | 1 3 5 -1 | 2 3 6 -2\n-3 | 1 1 6 -3\n0\nrefused 12 opposite\n",
+            Status::Refused,
+        ),
+        (
+            "constant 2 7\nconstant 1 x\nconstant 1\n",
+            "loaded 5 2 12 -\nrefused 8 root 12\nrefused 9 number 12\nrefused 10 fields 1\n",
+            Status::Refused,
+        ),
+    ];
+    for (lines, output, status) in cases {
+        assert!(rt;
+            runs(rt.alloc(), PLAIN, G2, lines, output, status)?,
+            "at {lines}"
+        );
+    }
+    Ok(())
+}
+
+#[test]
+fn forms(rt: HostRuntime) -> Result<(), Fail> {
+    // the script up to `load`, a line after it, the output
+    let cases = [
+        (SL2, "form 1", "loaded 5 1 2 -\n- | 1 | - | -\n"),
+        (SL2, "form x1(0)", "loaded 5 1 2 -\n- | 1 | - | -\n"),
+        (
+            SL2,
+            "form h(2) x1(1)",
+            "loaded 5 1 2 -\nx1(4) | 2 | - | -\n",
+        ),
+        (
+            SL3,
+            "form x2(1) x1(1)",
+            "loaded 3 2 6 -\nx1(1) x2(1) x3(2) | 1 1 | - | -\n",
+        ),
+        (
+            SL3,
+            "form h(2,1) x2(1) x1(1) h(1,2) x1(1)",
+            "loaded 3 2 6 -\nx2(2) | 2 2 | - | -\n",
+        ),
+        (
+            B2,
+            "form x2(1) x1(1)\nform x3(1) x1(1)",
+            "loaded 3 2 8 -\nx1(1) x2(1) x3(2) x4(1) | 1 1 | - | -\nx1(1) x3(1) x4(1) | 1 1 | - | -\n",
+        ),
+        (
+            B2_OVER_TWO,
+            "form x3(1) x1(1)",
+            "loaded 2 2 8 -\nx1(1) x3(1) | 1 1 | - | -\n",
+        ),
+        (
+            G2,
+            "form x2(1) x1(1)",
+            "loaded 5 2 12 -\nx1(1) x2(1) x3(4) x4(1) x5(4) x6(4) | 1 1 | - | -\n",
+        ),
+    ];
+    for (front, line, output) in cases {
+        assert!(rt;
+            runs(rt.alloc(), PLAIN, front, line, output, Status::Done)?,
+            "at {line}"
+        );
+    }
+    Ok(())
+}
+
+#[test]
 fn refused_commands(rt: HostRuntime) -> Result<(), Fail> {
     // line 6 after SL2, and what it gives after the reply to `load`
     let cases = [
@@ -260,8 +330,8 @@ fn refused_commands(rt: HostRuntime) -> Result<(), Fail> {
             Status::Refused,
         ),
         (
-            "form y1",
-            "loaded 5 1 2 -\nrefused 6 letter 6\n",
+            "form y1\nform x2(1)\nform x1(5)\nform x-1(1)\nform n1",
+            "loaded 5 1 2 -\nrefused 6 letter 6\nrefused 7 root 6\nrefused 8 value 6\nrefused 9 letter 6\nrefused 10 letter 6\n",
             Status::Refused,
         ),
         (

@@ -2,7 +2,7 @@ use Rattle.std.proofs.Common.{sym, ◌∙◌}
 use Rattle.lie_session.proofs.CauseLemmas.{complete_from}
 use Rattle.lie_session.proofs.StatusLemmas.{fields_are_sized, data_are_loaded}
 use Rattle.lie_session.proofs.OneOutputLemmas.{one_output}
-use Rattle.lie_session.proofs.TextLemmas.{replies_tell_words}
+use Rattle.lie_reply.proofs.TextLemmas.{replies_tell_words, replies_decide_torus_words}
 use Rattle.lie_session.proofs.program.lie.Goals as goal
 
 pub returns-in-Some-clause-complete : goal.returns-in-Some-clause-complete
@@ -17,6 +17,9 @@ returns-in-Some-clause-one g c = one_output
 pub returns-in-Some-clause-words : goal.returns-in-Some-clause-words
 returns-in-Some-clause-words g c = replies_tell_words
 
+pub returns-in-Some-clause-torus_words : goal.returns-in-Some-clause-torus_words
+returns-in-Some-clause-torus_words g c = replies_decide_torus_words
+
 pub returns-in-Some-clause-sized : goal.returns-in-Some-clause-sized
 returns-in-Some-clause-sized g c = fields_are_sized
 
@@ -28,6 +31,9 @@ returns-in-None-clause-one g c = one_output
 
 pub returns-in-None-clause-words : goal.returns-in-None-clause-words
 returns-in-None-clause-words g c = replies_tell_words
+
+pub returns-in-None-clause-torus_words : goal.returns-in-None-clause-torus_words
+returns-in-None-clause-torus_words g c = replies_decide_torus_words
 
 pub returns-in-None-clause-sized : goal.returns-in-None-clause-sized
 returns-in-None-clause-sized g c = fields_are_sized

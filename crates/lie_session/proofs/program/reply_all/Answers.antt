@@ -4,7 +4,7 @@ use Rattle.lie_session.specs.Output.{rests}
 use Rattle.lie_session.specs.State.{State}
 use Rattle.lie_session.specs.declared.mode.Mode.{Mode}
 use Rattle.lie_session.proofs.ToldLemmas.{empty_from}
-use Rattle.lie_session.proofs.StatusLemmas.{live_from, uncounted, check_unloaded, not_refused}
+use Rattle.lie_session.proofs.StatusLemmas.{uncounted, check_unloaded, not_refused}
 use Rattle.lie_session.proofs.ProgressLemmas.{progress_none, progress_more, stop_more, stop_end, output_ended, output_end, replied_status}
 use Rattle.lie_session.proofs.program.reply_all.Goals as goal
 use Rattle.lie_session.proofs.program.reply_all.Goals.{then-lines-test+else-not-rests, else-lines-test}

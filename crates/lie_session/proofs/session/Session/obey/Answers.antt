@@ -1,8 +1,12 @@
 use Rattle.std.proofs.Common.{rules, ◌≡◌}
 use Rattle.lie_session.specs.DatumLines.{with_root, with_coroot}
 use Rattle.lie_session.specs.Replies.{InDatum}
-use Rattle.lie_session.proofs.StateLemmas.{does_datum, does_root, does_coroot}
+use Rattle.lie_session.proofs.StateLemmas.{does_datum, does_root, does_coroot, form_over}
 use Rattle.lie_session.proofs.session.Session.obey.Goals as goal
+
+pub form_text-requires-clause-over : goal.form_text-requires-clause-over
+form_text-requires-clause-over c =
+    form_over c.args.self.now c.args.line c.in-Form.w c.both.result.0.now c.both.result.1.now c.constants.result.now c.requires c.in-Form.is c.both.ensures.field c.both.ensures.datum
 
 pub returns-in-Datum : goal.returns-in-Datum
 returns-in-Datum c = does_datum c.args.self.now c.args.number c.in-Datum.d c.in-Datum.l c.args.line c.opened.result c.read_datum.result _ c.in-Datum.is c.opened.ensures c.read_datum.ensures

@@ -1,0 +1,10 @@
+pub mod SimpleNumbers
+pub mod EntrySums
+pub mod ListLemmas
+pub mod TestLemmas
+pub mod BraidLemmas
+pub mod RootEntries
+pub mod WordMatrixLemmas
+pub mod WordTestLemmas
+pub mod OneAdjointLemmas
+pub mod AnswerLemmas

@@ -1,0 +1,6 @@
+pub mod SignAnswers
+pub mod SignParts
+pub mod BraidParts
+pub mod WordMatrix
+pub mod BraidAnswers
+pub mod OneAdjoint

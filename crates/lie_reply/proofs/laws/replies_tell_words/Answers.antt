@@ -1,0 +1,5 @@
+use Rattle.lie_reply.proofs.TextLemmas.{replies_tell_words}
+use Rattle.lie_reply.proofs.laws.replies_tell_words.Goals as goal
+
+pub returns : goal.returns
+returns c = replies_tell_words

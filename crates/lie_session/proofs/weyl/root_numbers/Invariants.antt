@@ -1,5 +1,0 @@
-use Rattle.std.proofs.Common.{◌≡◌, take}
-use Rattle.lie_session.proofs.weyl.root_numbers.Given as goal
-
-abbrev pub invariant-roots : goal.invariant-roots
-invariant-roots l = l.list.items ≡ take l.r-index l.roots

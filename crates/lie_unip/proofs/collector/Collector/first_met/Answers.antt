@@ -1,0 +1,34 @@
+use Rattle.std.proofs.Common.{◌≡◌, ◌+◌, inl, inr, get_or, sym, ◌∙◌, ap₂, arith}
+use Rattle.std.proofs.lemmas.List.{get_or_read}
+use Rattle.lie_letters.specs.PositiveTerms.{positive_terms}
+use Rattle.lie_unip.specs.Splitting.{kept_at}
+use Rattle.lie_unip.specs.Placing.{terms_between}
+use Rattle.lie_unip.proofs.OrderedLemmas.{different_at}
+use Rattle.lie_unip.proofs.PlacingLemmas.{idle_more}
+use Rattle.lie_unip.proofs.collector.Collector.first_met.Goals as goal
+use Rattle.lie_unip.proofs.collector.Collector.first_met.Goals.{else-not-same-via-then-not-same+else-not-commute, else-not-same-via-else-not-same}
+
+pub commute-requires-clause-other : goal.commute-requires-clause-other
+commute-requires-clause-other g c =
+    let ks = c.args.self.now.roots.items in
+    let test = c.loop-k-test.true in
+    let count = c.requires.entries.count in
+    let from = c.loop-k.auto.k in
+    λ e. different_at (kept_at c.args.self.now.kept.items) ks c.args.at c.loop-k.k c.requires.lawful.sorted (omega (arith, from)) (omega (arith, test, count))
+    (sym c.root-root.ensures.value ∙ e ∙ c.root.ensures.value)
+
+pub loop-k-preserved : goal.loop-k-preserved
+loop-k-preserved g c =
+    let self = c.args.self.now in
+    let R = g.R.Ring.ring self.ring.now in
+    let ks = self.roots.items in
+    let k = c.loop-k.k in
+    let entries = c.args.entries.now in
+    let r = get_or ks c.args.at 0 in
+    let terms = positive_terms self.consts.now in
+    let read : c.index-entries-k.result ≡ get_or entries k R.zero = get_or_read entries k _ c.loop-k-test.true c.index-entries-k.is R.zero in
+    idle_more R terms r ks (c.args.at + 1) k entries c.loop-k.invariant
+    (elim c.else-not-same.branch [
+      | else-not-same-via-then-not-same+else-not-commute w ↦ inr (sym (ap₂ (λ p q. terms_between terms p q) c.root-root.ensures.value w.root.ensures.value) ∙ w.commute.ensures.0 w.if-not-commute.false)
+      | else-not-same-via-else-not-same w ↦ inl (sym read ∙ c.same.ensures.0 w.if-not-same.false ∙ c.requires.lawful.zero_is)
+    ])

@@ -1,0 +1,5 @@
+pub mod Collection
+pub mod Dropping
+pub mod Splitting
+pub mod Placing
+pub mod Laws

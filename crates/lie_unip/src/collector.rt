@@ -1,0 +1,232 @@
+//! Collecting letters into a sorted word.
+
+ghost use Rattle.std.specs.Prelude.{◌≡◌, ℕ, ◌+◌, ◌<◌, ◌≤◌, ◌++◌, ◌≢◌, Bool, true, List, length, map, reverse, pos, slice_index_or, OnOk, IfOk, IsTrue, ◌↔◌, []};
+ghost use Rattle.lie_ring.specs.Rings.{RingOn, Fits};
+ghost use Rattle.lie_const.specs.ConstantTables.{terms_of};
+ghost use Rattle.lie_letters.specs.RingLetters.{IsRingWord};
+ghost use Rattle.lie_unip.specs.Collection.{AreEntries, IsCollected, elements};
+ghost use Rattle.lie_letters.specs.PositiveTerms.{positive_terms};
+ghost use Rattle.lie_unip.specs.Splitting.{kept_at, kept_first};
+ghost use Rattle.lie_unip.specs.Placing.{IsCollector, letters_at, crossing, terms_between, IdleBetween, ZeroFrom, IsLifted, AreLifted, IsPlaced};
+
+use crate::terms::{put_inverse_terms, put_terms};
+use lie_const::{Constants, Term};
+use lie_datum::RootId;
+use lie_ring::{Ring, roomy_add, roomy_copy, roomy_neg};
+use std::alloc::{AllocError, Global};
+use std::mem;
+
+/// What collecting reads: a ring with its zero, the terms, and the order in which a word is sorted.
+///
+/// A sorted word is kept as the list of its elements, zeros included, in the order of `roots`. The
+/// letters still to be placed are a list of which the last one comes first.
+#[derive(Drop)]
+pub(crate) struct Collector<'a, R: Ring> {
+    pub(crate) ring: &'a R,
+    pub(crate) consts: &'a Constants,
+    pub(crate) alloc: Global,
+    pub(crate) zero: R::Elem,
+    /// At place k - 1, whether the k-th root is of the first group; none is where the list is empty.
+    pub(crate) kept: Vec<bool>,
+    /// The roots in the order of the sorted word.
+    pub(crate) roots: Vec<usize>,
+    /// At place k - 1, the place of the k-th root in that order.
+    pub(crate) places: Vec<usize>,
+}
+
+impl<'a, R: Ring> Collector<'a, R> {
+    /// The terms of two positive roots, the one before the other.
+    fn terms(&self, r: usize, s: usize) -> &[Term]
+        requires lawful { IsCollector (R.ring self.now.ring.now) self.now.zero self.now.consts.now self.now.kept.items self.now.roots.items self.now.places.items }
+        requires first { 1 ≤ r }
+        requires order { r < s }
+        requires last { s ≤ self.now.consts.now.positive }
+        ensures { result.now ≡ terms_of self.now.consts.now (pos r) (pos s) }
+    {
+        let m = self.places.len();
+        self.consts.c(RootId::at(r - 1, m), RootId::at(s - 1, m))
+    }
+
+    /// Whether two roots, the one or the other first, have no terms.
+    fn commute(&self, r: usize, s: usize) -> bool
+        requires lawful { IsCollector (R.ring self.now.ring.now) self.now.zero self.now.consts.now self.now.kept.items self.now.roots.items self.now.places.items }
+        requires r { 1 ≤ r }
+        requires r_last { r ≤ self.now.consts.now.positive }
+        requires s { 1 ≤ s }
+        requires s_last { s ≤ self.now.consts.now.positive }
+        requires other { r ≢ s }
+        ensures { IsTrue result ↔ (terms_between (positive_terms self.now.consts.now) r s ≡ []) }
+    {
+        let terms = if r < s {
+            self.terms(r, s)
+        } else {
+            self.terms(s, r)
+        };
+        terms.is_empty()
+    }
+
+    /// The root at a place of the sorted word.
+    fn root(&self, at: usize) -> usize
+        requires lawful { IsCollector (R.ring self.now.ring.now) self.now.zero self.now.consts.now self.now.kept.items self.now.roots.items self.now.places.items }
+        requires at { at < length self.now.roots.items }
+        ensures value { result ≡ slice_index_or self.now.roots.items at 0 }
+        ensures low { 1 ≤ result }
+        ensures high { result ≤ self.now.consts.now.positive }
+    {
+        self.roots[at]
+    }
+
+    /// The first place behind that of a root whose element isn't 0 and whose root has terms with it.
+    fn first_met(&self, entries: &[R::Elem], at: usize) -> usize
+        requires lawful { IsCollector (R.ring self.now.ring.now) self.now.zero self.now.consts.now self.now.kept.items self.now.roots.items self.now.places.items }
+        requires entries { AreEntries (R.ring self.now.ring.now) (length self.now.roots.items) entries.now }
+        requires at { at < length self.now.roots.items }
+        ensures after { at < result }
+        ensures within { result ≤ length self.now.roots.items }
+        ensures idle { IdleBetween (R.ring self.now.ring.now) (positive_terms self.now.consts.now) (slice_index_or self.now.roots.items at 0) self.now.roots.items (at + 1) result entries.now }
+    {
+        let root = self.root(at);
+        for k in at + 1..entries.len() {
+            if !self.ring.same(&entries[k], &self.zero) && !self.commute(root, self.root(k)) {
+                return k;
+            }
+        }
+        entries.len()
+    }
+
+    /// Puts the letters that arise where the letter at `root` and `a` passes that at `k` and `x` on
+    /// the list.
+    fn cross(
+        &self,
+        root: usize,
+        a: &R::Elem,
+        minus: &R::Elem,
+        k: usize,
+        x: &R::Elem,
+        todo: &mut Vec<(usize, R::Elem)>,
+    ) -> Result<(), AllocError>
+        requires lawful { IsCollector (R.ring self.now.ring.now) self.now.zero self.now.consts.now self.now.kept.items self.now.roots.items self.now.places.items }
+        requires low { 1 ≤ root }
+        requires high { root ≤ self.now.consts.now.positive }
+        requires k_low { 1 ≤ k }
+        requires k_high { k ≤ self.now.consts.now.positive }
+        requires other { root ≢ k }
+        requires a { Fits (R.ring self.now.ring.now) a.now }
+        requires minus { minus.now ≡ (R.ring self.now.ring.now).neg a.now }
+        requires minus_fits { Fits (R.ring self.now.ring.now) minus.now }
+        requires x { Fits (R.ring self.now.ring.now) x.now }
+        ensures { OnOk result (reverse todo.new.items ≡ crossing (R.ring self.now.ring.now) (positive_terms self.now.consts.now) root a.now (record { 0 = k; 1 = x.now }) ++ reverse todo.old.items) }
+    {
+        if root < k {
+            let terms = self.terms(root, k);
+            put_terms(self.ring, self.alloc, terms, a, minus, x, todo)
+        } else {
+            let terms = self.terms(k, root);
+            let minus_x = roomy_neg(self.ring, self.alloc, x)?;
+            put_inverse_terms(self.ring, self.alloc, terms, x, &minus_x, a, todo)
+        }
+    }
+
+    /// Lets the letter at the root of place `at`, with `a`, pass a place, the last one that isn't 0.
+    fn lift_one(
+        &self,
+        entries: &mut Vec<R::Elem>,
+        todo: &mut Vec<(usize, R::Elem)>,
+        place: usize,
+        at: usize,
+        a: &R::Elem,
+        minus: &R::Elem,
+    ) -> Result<(), AllocError>
+        requires lawful { IsCollector (R.ring self.now.ring.now) self.now.zero self.now.consts.now self.now.kept.items self.now.roots.items self.now.places.items }
+        requires entries { AreEntries (R.ring self.now.ring.now) (length self.now.roots.items) entries.old.items }
+        requires todo { IsRingWord (R.ring self.now.ring.now) self.now.consts.now.positive (reverse todo.old.items) }
+        requires last_one { ZeroFrom (R.ring self.now.ring.now) (place + 1) entries.old.items }
+        requires later { at < place }
+        requires within { place < length self.now.roots.items }
+        requires a { Fits (R.ring self.now.ring.now) a.now }
+        requires minus { minus.now ≡ (R.ring self.now.ring.now).neg a.now }
+        requires minus_fits { Fits (R.ring self.now.ring.now) minus.now }
+        ensures { OnOk result (IsLifted (R.ring self.now.ring.now) (positive_terms self.now.consts.now) self.now.consts.now.positive (kept_at self.now.kept.items) self.now.roots.items (slice_index_or self.now.roots.items at 0) a.now place entries.old.items entries.new.items todo.old.items todo.new.items) }
+    {
+        if self.ring.same(&entries[place], &self.zero) {
+            return Ok(());
+        }
+        let empty = roomy_copy(self.ring, self.alloc, &self.zero)?;
+        let x = mem::replace(&mut entries[place], empty);
+        let root = self.root(at);
+        let k = self.root(place);
+        self.cross(root, a, minus, k, &x, todo)?;
+        todo.push((k, x))?;
+        Ok(())
+    }
+
+    /// Lets the letter at the root of place `at`, with `a`, pass all places from `first` on.
+    fn lift(
+        &self,
+        entries: &mut Vec<R::Elem>,
+        todo: &mut Vec<(usize, R::Elem)>,
+        first: usize,
+        at: usize,
+        a: &R::Elem,
+    ) -> Result<(), AllocError>
+        requires lawful { IsCollector (R.ring self.now.ring.now) self.now.zero self.now.consts.now self.now.kept.items self.now.roots.items self.now.places.items }
+        requires entries { AreEntries (R.ring self.now.ring.now) (length self.now.roots.items) entries.old.items }
+        requires todo { IsRingWord (R.ring self.now.ring.now) self.now.consts.now.positive (reverse todo.old.items) }
+        requires later { at < first }
+        requires within { first ≤ length self.now.roots.items }
+        requires a { Fits (R.ring self.now.ring.now) a.now }
+        ensures { OnOk result (AreLifted (R.ring self.now.ring.now) (positive_terms self.now.consts.now) self.now.consts.now.positive (kept_at self.now.kept.items) self.now.roots.items (slice_index_or self.now.roots.items at 0) a.now first entries.old.items entries.new.items todo.old.items todo.new.items) }
+    {
+        let minus = roomy_neg(self.ring, self.alloc, a)?;
+        for place in (first..entries.len()).rev() {
+            self.lift_one(entries, todo, place, at, a, &minus)?;
+        }
+        Ok(())
+    }
+
+    /// Places the letter at `root` and `a`; what it meets joins the letters still to be placed.
+    fn place(
+        &self,
+        entries: &mut Vec<R::Elem>,
+        todo: &mut Vec<(usize, R::Elem)>,
+        root: usize,
+        a: &R::Elem,
+    ) -> Result<(), AllocError>
+        requires lawful { IsCollector (R.ring self.now.ring.now) self.now.zero self.now.consts.now self.now.kept.items self.now.roots.items self.now.places.items }
+        requires entries { AreEntries (R.ring self.now.ring.now) (length self.now.roots.items) entries.old.items }
+        requires todo { IsRingWord (R.ring self.now.ring.now) self.now.consts.now.positive (reverse todo.old.items) }
+        requires low { 1 ≤ root }
+        requires high { root ≤ self.now.consts.now.positive }
+        requires a { Fits (R.ring self.now.ring.now) a.now }
+        ensures { OnOk result (IsPlaced (R.ring self.now.ring.now) (positive_terms self.now.consts.now) self.now.consts.now.positive (kept_at self.now.kept.items) self.now.roots.items root a.now entries.old.items entries.new.items todo.old.items todo.new.items) }
+    {
+        if self.ring.same(a, &self.zero) {
+            return Ok(());
+        }
+        let at = self.places[root - 1];
+        let first = self.first_met(entries, at);
+        self.lift(entries, todo, first, at, a)?;
+        let sum = roomy_add(self.ring, self.alloc, &entries[at], a)?;
+        entries[at] = sum;
+        Ok(())
+    }
+
+    /// Collects the word of the elements with the letters behind it.
+    pub(crate) fn collect(
+        &self,
+        entries: &mut Vec<R::Elem>,
+        todo: Vec<(usize, R::Elem)>,
+    ) -> Result<(), AllocError>
+        requires lawful { IsCollector (R.ring self.now.ring.now) self.now.zero self.now.consts.now self.now.kept.items self.now.roots.items self.now.places.items }
+        requires entries { AreEntries (R.ring self.now.ring.now) (length self.now.roots.items) entries.old.items }
+        requires todo { IsRingWord (R.ring self.now.ring.now) self.now.consts.now.positive (reverse todo.items) }
+        ensures entries { OnOk result (AreEntries (R.ring self.now.ring.now) (length self.now.roots.items) entries.new.items) }
+        ensures collected { OnOk result (IsCollected (R.ring self.now.ring.now) (positive_terms self.now.consts.now) (kept_first (kept_at self.now.kept.items)) self.now.consts.now.positive (letters_at self.now.roots.items entries.old.items ++ reverse todo.items) (elements (R.ring self.now.ring.now) self.now.consts.now.positive (letters_at self.now.roots.items entries.new.items))) }
+    {
+        let mut todo = todo;
+        while let Some((root, a)) = todo.pop() {
+            self.place(entries, &mut todo, root, &a)?;
+        }
+        Ok(())
+    }
+}
