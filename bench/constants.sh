@@ -1,7 +1,7 @@
 #!/bin/sh
-# Times the line `load` of E_8's script through the built program: its structure constants and commutator terms (the datum is loaded
-# before, behind its last `coroot`); and GAP's full table of the structure constants of E_8 beside it, in the same order of roots and
-# with the same signs.
+# Times the line `load` of E_8's script through the built program: its structure constants and commutator terms, its adjoint module,
+# signs and braid values (the datum is loaded before, behind its last `coroot`); and GAP's full table of the structure constants of E_8
+# alone beside it, in the same order of roots and with the same signs.
 #
 #   sh bench/constants.sh
 #   GAP=gap sh bench/constants.sh             with GAP 4.12 (the Debian package `gap-core`), where it is installed
