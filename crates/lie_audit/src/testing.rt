@@ -8,6 +8,7 @@ ghost use Rattle.lie_const.specs.Modules.{dimension, IsModule};
 ghost use Rattle.lie_const.specs.Adjoint.{adjoint_dimension, IsAdjointOf};
 ghost use Rattle.lie_const.specs.Signs.{sign_entry};
 ghost use Rattle.lie_weight.specs.Laws.{HasSmallMatrices};
+ghost use Rattle.lie_audit.specs.OneAdjoint.{HasSignCount};
 ghost use Rattle.lie_audit.specs.SignAnswers.{IsSignFault, AreTestedSigns};
 ghost use Rattle.lie_audit.specs.SignParts.{AreTested, IsAsked, IsUnit};
 
@@ -129,6 +130,7 @@ fn add_signs(
 pub fn signs(alloc: Global, datum: &Datum, adjoint: &Module) -> Result<Signs, SignFault>
     requires { IsAdjointOf datum.now adjoint.now }
     ensures ok { IfOk result (AreTestedSigns datum.now adjoint.now) }
+    ensures count { IfOk result HasSignCount }
     ensures err { IfErr result (IsSignFault datum.now adjoint.now) }
 {
     datum.loaded();

@@ -6,3 +6,4 @@ pub mod FormLemmas
 pub mod ProductLemmas
 pub mod LettersLemmas
 pub mod TextLemmas
+pub mod RowLemmas

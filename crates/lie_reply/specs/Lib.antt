@@ -2,3 +2,4 @@ pub mod Forms
 pub mod Texts
 pub mod Commands
 pub mod Laws
+pub mod Modules

@@ -1,28 +1,35 @@
 -- What holds of the lines that pass their checks.
-use Rattle.std.proofs.Common.{◌≡◌, ◌≢◌, ℕ, ◌+◌, true, List, [], ◌∷◌, length, ℤ, pos, nat_abs, ◌∙◌, arith, Ok, refl, sym, subst, ◌≤◌}
-use Rattle.std.specs.Prelude.{◌&&◌, ◌||◌, not, nat_eq, nat_le, IfOk}
+use Rattle.std.proofs.Common.{◌≡◌, ◌≢◌, ℕ, ◌+◌, true, List, [], ◌∷◌, length, ℤ, pos, nat_abs, ◌∙◌, arith, Ok, refl, sym, subst, ◌≤◌, Bool, false, Option, Some, None, negsuc, ◌<◌}
+use Rattle.std.specs.Prelude.{◌&&◌, ◌||◌, not, nat_eq, nat_lt, nat_le, is_some, IfOk}
+use Rattle.std.proofs.lemmas.Bool.{false≢true}
 use Rattle.std.specs.List.{All, AllByRecursion}
 use Rattle.std.proofs.lemmas.List.{length-take}
 use Rattle.std.proofs.lemmas.List.Elements.{All-take, All-from_recursion}
 use Rattle.std.proofs.lemmas.Bool.{eqb-true}
 use Rattle.std.proofs.lemmas.Result.{IfOk-at_ok}
 use Rattle.lie_letters.specs.Spelled.{IsWordOver}
-use Rattle.lie_script.specs.Accepted.{Fits, AcceptedLinesFit}
-use Rattle.lie_script.specs.Checks.{found, none_at}
+use Rattle.lie_script.specs.Accepted.{IsNewName, Fits, AcceptedLinesFit}
+use Rattle.lie_script.specs.Checks.{unless, found, none_at}
 use Rattle.lie_script.specs.Fields.{Span, fields_of, foreign_from, begins_with}
 use Rattle.lie_script.specs.Kinds.{field_of, field_line, datum_line, vector, root_line, coroot_line, bare_line, word_line, constant_line, is_dash, weyl_of, weyl_line}
-use Rattle.lie_script.specs.Names.{Listed}
+use Rattle.lie_script.specs.Names.{Listed, dimension_of}
 use Rattle.lie_script.specs.Letters.{word}
+use Rattle.lie_script.specs.Modules.{is_name, kind_of, new_name, kind_line, module_line, matrix_line}
 use Rattle.lie_script.specs.Numbers.{is_within, allows, integer, number, numbers, natural}
 use Rattle.lie_script.specs.Reading.{keyword_of, is_command, begins, own_line, spoken, said, reads}
 use Rattle.lie_script.specs.declared.allowed.Allowed.{Allowed}
-use Rattle.lie_script.specs.declared.allowed.Allowed.TheVariants.{RootOf}
+use Rattle.lie_script.specs.declared.allowed.Allowed.TheVariants.{Within, RootOf}
+use Rattle.lie_script.specs.declared.faults.FaultName.TheVariants as fault
+use Rattle.lie_script.specs.declared.faults.Fault.TheVariants.{Bare, At}
+use Rattle.lie_script.specs.declared.letter_set.LetterSet.TheVariants as taken
+use Rattle.lie_script.specs.declared.module_kind.ModuleKind.{ModuleKind}
+use Rattle.lie_script.specs.declared.module_kind.ModuleKind.TheVariants.{Adjoint, Orbit}
 use Rattle.lie_script.specs.declared.keyword.Keyword.{Keyword}
 use Rattle.lie_script.specs.declared.keyword.Keyword.TheVariants as keyword
 use Rattle.lie_script.specs.declared.sizes.Sizes.{Sizes}
 use Rattle.lie_script.specs.declared.sizes.Wants.{Wants}
 use Rattle.lie_script.specs.declared.sizes.Wants.TheVariants as wants
-use Rattle.lie_script.proofs.Steps.{bind-all, unless-all, if-all, each-ok, IfOk-from}
+use Rattle.lie_script.proofs.Steps.{unless-ok, bind-all, unless-all, if-all, each-ok, IfOk-from}
 use Rattle.lie_script.proofs.Elements.{AreBorel, word-borel, word-over}
 
 -- a number that was read is allowed
@@ -52,6 +59,8 @@ awaited_by keyword.Form = wants.Command
 awaited_by keyword.Roots = wants.Command
 awaited_by keyword.Constant = wants.Command
 awaited_by keyword.Weyl = wants.Command
+awaited_by keyword.Module = wants.Command
+awaited_by keyword.Matrix = wants.Command
 
 -- a word that begins a line was awaited
 begun : (word : Keyword) (awaited : Wants) → begins word awaited ≡ true → awaited ≡ awaited_by word
@@ -109,74 +118,134 @@ begun keyword.Weyl wants.Root due = absurd cc
 begun keyword.Weyl wants.Coroot due = absurd cc
 begun keyword.Weyl wants.Load due = absurd cc
 begun keyword.Weyl wants.Command due = refl
+begun keyword.Module wants.Field due = absurd cc
+begun keyword.Module wants.Datum due = absurd cc
+begun keyword.Module wants.Root due = absurd cc
+begun keyword.Module wants.Coroot due = absurd cc
+begun keyword.Module wants.Load due = absurd cc
+begun keyword.Module wants.Command due = refl
+begun keyword.Matrix wants.Field due = absurd cc
+begun keyword.Matrix wants.Datum due = absurd cc
+begun keyword.Matrix wants.Root due = absurd cc
+begun keyword.Matrix wants.Coroot due = absurd cc
+begun keyword.Matrix wants.Load due = absurd cc
+begun keyword.Matrix wants.Command due = refl
 
-field_of-fits : (sizes : Sizes) (fields : List Span) (all : List ℤ) → AllByRecursion (λ n. is_within (pos 0) (pos 1000000) n ≡ true) all → IfOk (field_of fields all) (Fits wants.Field sizes)
+field_of-fits : (sizes : Sizes) (listed : Listed) (fields : List Span) (all : List ℤ) → AllByRecursion (λ n. is_within (pos 0) (pos 1000000) n ≡ true) all → IfOk (field_of fields all) (Fits wants.Field sizes listed)
 unfolding field_of
-field_of-fits sizes fields [] h = tt
-field_of-fits sizes fields (p ∷ []) h = tt
-field_of-fits sizes fields (p ∷ k ∷ more) h =
-    unless-all (Fits wants.Field sizes) (nat_eq (length more) (nat_abs k + 1)) _ _ (λ counted. (refl, omega (arith, length-take (nat_abs k) more, eqb-true (length more) (nat_abs k + 1) counted), All-take (λ n. is_within (pos 0) (pos 1000000) n ≡ true) (nat_abs k) more (All-from_recursion (λ n. is_within (pos 0) (pos 1000000) n ≡ true) more h.1.1)))
+field_of-fits sizes listed fields [] h = tt
+field_of-fits sizes listed fields (p ∷ []) h = tt
+field_of-fits sizes listed fields (p ∷ k ∷ more) h =
+    unless-all (Fits wants.Field sizes listed) (nat_eq (length more) (nat_abs k + 1)) _ _ (λ counted. (refl, omega (arith, length-take (nat_abs k) more, eqb-true (length more) (nat_abs k + 1) counted), All-take (λ n. is_within (pos 0) (pos 1000000) n ≡ true) (nat_abs k) more (All-from_recursion (λ n. is_within (pos 0) (pos 1000000) n ≡ true) more h.1.1)))
 
 sized-is : (d l : ℕ) → (nat_le 1 d && nat_le d 8 && nat_le l d) ≡ true → (1 ≤ d) × (d ≤ 8) × (l ≤ d)
 sized-is d l sized = grind (arith, sized)
 
-datum_line-fits : (sizes : Sizes) (fields : List Span) → IfOk (datum_line fields) (Fits wants.Datum sizes)
-datum_line-fits sizes [] = tt
-datum_line-fits sizes (d ∷ []) = tt
-datum_line-fits sizes (d ∷ l ∷ []) =
-    bind-all (Fits wants.Datum sizes) (natural 0 1000000 d) _ (λ d is. bind-all (Fits wants.Datum sizes) (natural 0 1000000 l) _ (λ l is. unless-all (Fits wants.Datum sizes) (nat_le 1 d && nat_le d 8 && nat_le l d) _ _ (λ sized. let parts = sized-is d l sized in (refl, parts.0, parts.1, parts.2))))
-datum_line-fits sizes (d ∷ l ∷ more ∷ fields) = tt
+datum_line-fits : (sizes : Sizes) (listed : Listed) (fields : List Span) → IfOk (datum_line fields) (Fits wants.Datum sizes listed)
+datum_line-fits sizes listed [] = tt
+datum_line-fits sizes listed (d ∷ []) = tt
+datum_line-fits sizes listed (d ∷ l ∷ []) =
+    bind-all (Fits wants.Datum sizes listed) (natural 0 1000000 d) _ (λ d is. bind-all (Fits wants.Datum sizes listed) (natural 0 1000000 l) _ (λ l is. unless-all (Fits wants.Datum sizes listed) (nat_le 1 d && nat_le d 8 && nat_le l d) _ _ (λ sized. let parts = sized-is d l sized in (refl, parts.0, parts.1, parts.2))))
+datum_line-fits sizes listed (d ∷ l ∷ more ∷ fields) = tt
 
 apart-is : (m n : ℕ) → not (nat_eq m n) ≡ true → m ≢ n
 apart-is m n apart = grind (arith, apart)
 
-constant_line-fits : (sizes : Sizes) (fields : List Span) → IfOk (constant_line sizes fields) (Fits wants.Command sizes)
-constant_line-fits sizes [] = tt
-constant_line-fits sizes (r ∷ []) = tt
-constant_line-fits sizes (r ∷ s ∷ []) =
-    let P = Fits wants.Command sizes in
+constant_line-fits : (sizes : Sizes) (listed : Listed) (fields : List Span) → IfOk (constant_line sizes fields) (Fits wants.Command sizes listed)
+constant_line-fits sizes listed [] = tt
+constant_line-fits sizes listed (r ∷ []) = tt
+constant_line-fits sizes listed (r ∷ s ∷ []) =
+    let P = Fits wants.Command sizes listed in
     let allowed = RootOf sizes.m in
     let Q = λ (n : ℤ). allows allowed n ≡ true in
     bind-all P (number allowed r) _ (λ k is. bind-all P (number allowed s) _ (λ l are. unless-all P (not (nat_eq (nat_abs k) (nat_abs l))) _ _ (λ apart.
     (refl, IfOk-at_ok Q is (number-allowed allowed r), IfOk-at_ok Q are (number-allowed allowed s), apart-is (nat_abs k) (nat_abs l) apart))))
-constant_line-fits sizes (r ∷ s ∷ more ∷ fields) = tt
+constant_line-fits sizes listed (r ∷ s ∷ more ∷ fields) = tt
 
 -- no index is out of its range where there is none
 none-indices : (l : ℕ) → All (λ i. is_within (pos 1) (pos l) i ≡ true) []
 none-indices l = All-from_recursion (λ i. is_within (pos 1) (pos l) i ≡ true) [] tt
 
-own_line-fits : (sizes : Sizes) (listed : Listed) (word : Keyword) (fields : List Span) → IfOk (own_line sizes listed word fields) (Fits (awaited_by word) sizes)
+-- a name that is new
+new_name-ok : (listed : Listed) (name : Span) (u : Unit {0}) → is_name name.bytes ≡ true → new_name listed name ≡ Ok u → IsNewName listed name.bytes
+unfolding new_name
+new_name-ok listed name u spelled h =
+    let free = unless-ok (not (is_some (dimension_of listed name.bytes))) (At fault.Taken name.column) (unless (nat_lt (length listed) 16) (Bare fault.Full)) u h in
+    record { spelled = spelled; free = none (dimension_of listed name.bytes) free.0; few = room (nat_lt (length listed) 16) refl free.1 }
+  where
+    none : (o : Option ℕ) → not (is_some o) ≡ true → o ≡ None
+    none None h = refl
+    none (Some n) h = absurd cc
+
+    room : (t : Bool) → nat_lt (length listed) 16 ≡ t → unless t (Bare fault.Full) ≡ Ok u → length listed < 16
+    room true is h = grind (arith, is)
+    room false is h = absurd cc
+
+kind_line-fits : (sizes : Sizes) (listed : Listed) (name : Span) (kind : ModuleKind) (fields : List Span) → is_name name.bytes ≡ true → IfOk (kind_line sizes listed name kind fields) (Fits wants.Command sizes listed)
+unfolding kind_line
+kind_line-fits sizes listed name Adjoint fields spelled =
+    let P = Fits wants.Command sizes listed in
+    unless-all P (nat_eq (length fields) 0) _ _ (λ counted. bind-all P (new_name listed name) _ (λ u is. (refl, new_name-ok listed name u spelled is)))
+kind_line-fits sizes listed name Orbit fields spelled =
+    let P = Fits wants.Command sizes listed in
+    unless-all P (nat_eq (length fields) sizes.d) _ _ (λ counted. bind-all P (numbers (Within (negsuc 99) (pos 100)) fields) _ (λ v are. bind-all P (new_name listed name) _ (λ u is. (
+      refl,
+      new_name-ok listed name u spelled is,
+      (numbers-ok (Within (negsuc 99) (pos 100)) fields v are).0 ∙ eqb-true (length fields) sizes.d counted,
+      All-from_recursion (λ c. is_within (negsuc 99) (pos 100) c ≡ true) v (numbers-ok (Within (negsuc 99) (pos 100)) fields v are).1,
+    ))))
+
+module_line-fits : (sizes : Sizes) (listed : Listed) (fields : List Span) → IfOk (module_line sizes listed fields) (Fits wants.Command sizes listed)
+unfolding module_line
+module_line-fits sizes listed [] = tt
+module_line-fits sizes listed (name ∷ []) = tt
+module_line-fits sizes listed (name ∷ kind ∷ fields) =
+    let P = Fits wants.Command sizes listed in
+    unless-all P (is_name name.bytes) _ _ (λ spelled. bind-all P (found (kind_of kind.bytes) (At fault.Kind kind.column)) _ (λ k is. kind_line-fits sizes listed name k fields spelled))
+
+matrix_line-fits : (sizes : Sizes) (listed : Listed) (fields : List Span) → IfOk (matrix_line sizes listed fields) (Fits wants.Command sizes listed)
+unfolding matrix_line
+matrix_line-fits sizes listed [] = tt
+matrix_line-fits sizes listed (name ∷ []) = tt
+matrix_line-fits sizes listed (name ∷ first ∷ fields) =
+    let P = Fits wants.Command sizes listed in
+    unless-all P (is_some (dimension_of listed name.bytes)) _ _ (λ known. bind-all P (word taken.All sizes (first ∷ fields)) _ (λ w is.
+    (refl, known, λ f q_is has loaded. IfOk-at_ok (IsWordOver f) is (word-over f taken.All sizes (first ∷ fields) q_is has (λ e. loaded)))))
+
+own_line-fits : (sizes : Sizes) (listed : Listed) (word : Keyword) (fields : List Span) → IfOk (own_line sizes listed word fields) (Fits (awaited_by word) sizes listed)
 unfolding own_line field_line root_line coroot_line bare_line word_line weyl_line
 own_line-fits sizes listed keyword.Field fields =
-    bind-all (Fits wants.Field sizes) (numbers _ fields) _ (λ all is. field_of-fits sizes fields all (numbers-ok _ fields all is).1)
-own_line-fits sizes listed keyword.Datum fields = datum_line-fits sizes fields
-own_line-fits sizes listed keyword.Root fields = bind-all (Fits wants.Root sizes) (vector sizes.d _ fields) _ (λ v is. (refl, IfOk-at_ok (λ v. length v ≡ sizes.d) is (vector-long sizes.d _ fields)))
-own_line-fits sizes listed keyword.Coroot fields = bind-all (Fits wants.Coroot sizes) (vector sizes.d _ fields) _ (λ v is. (refl, IfOk-at_ok (λ v. length v ≡ sizes.d) is (vector-long sizes.d _ fields)))
-own_line-fits sizes listed keyword.Load fields = unless-all (Fits wants.Load sizes) (nat_eq (length fields) 0) _ _ (λ counted. refl)
+    bind-all (Fits wants.Field sizes listed) (numbers _ fields) _ (λ all is. field_of-fits sizes listed fields all (numbers-ok _ fields all is).1)
+own_line-fits sizes listed keyword.Datum fields = datum_line-fits sizes listed fields
+own_line-fits sizes listed keyword.Root fields = bind-all (Fits wants.Root sizes listed) (vector sizes.d _ fields) _ (λ v is. (refl, IfOk-at_ok (λ v. length v ≡ sizes.d) is (vector-long sizes.d _ fields)))
+own_line-fits sizes listed keyword.Coroot fields = bind-all (Fits wants.Coroot sizes listed) (vector sizes.d _ fields) _ (λ v is. (refl, IfOk-at_ok (λ v. length v ≡ sizes.d) is (vector-long sizes.d _ fields)))
+own_line-fits sizes listed keyword.Load fields = unless-all (Fits wants.Load sizes listed) (nat_eq (length fields) 0) _ _ (λ counted. refl)
 own_line-fits sizes listed keyword.Form fields =
-    bind-all (Fits wants.Command sizes) (word_line sizes fields) _ (λ w is. (
+    bind-all (Fits wants.Command sizes listed) (word_line sizes fields) _ (λ w is. (
       refl,
-      IfOk-at_ok AreBorel is (unless-all AreBorel (nat_le 1 (length fields)) _ (word sizes fields) (λ some. word-borel sizes fields)),
-      λ f q_is has. IfOk-at_ok (IsWordOver f) is (unless-all (IsWordOver f) (nat_le 1 (length fields)) _ (word sizes fields) (λ some. word-over f sizes fields q_is has)),
+      IfOk-at_ok AreBorel is (unless-all AreBorel (nat_le 1 (length fields)) _ (word taken.Borel sizes fields) (λ some. word-borel sizes fields)),
+      λ f q_is has. IfOk-at_ok (IsWordOver f) is (unless-all (IsWordOver f) (nat_le 1 (length fields)) _ (word taken.Borel sizes fields) (λ some. word-over f taken.Borel sizes fields q_is has (λ e. absurd (false≢true e)))),
     ))
-own_line-fits sizes listed keyword.Roots fields = unless-all (Fits wants.Command sizes) (nat_eq (length fields) 0) _ _ (λ counted. refl)
-own_line-fits sizes listed keyword.Constant fields = constant_line-fits sizes fields
+own_line-fits sizes listed keyword.Roots fields = unless-all (Fits wants.Command sizes listed) (nat_eq (length fields) 0) _ _ (λ counted. refl)
+own_line-fits sizes listed keyword.Constant fields = constant_line-fits sizes listed fields
+own_line-fits sizes listed keyword.Module fields = module_line-fits sizes listed fields
+own_line-fits sizes listed keyword.Matrix fields = matrix_line-fits sizes listed fields
 own_line-fits sizes listed keyword.Weyl fields =
-    let P = Fits wants.Command sizes in
+    let P = Fits wants.Command sizes listed in
     unless-all P (nat_le 1 (length fields)) _ _ (λ some. unless-all P (nat_le (length fields) 4096) _ _ (λ few. if-all P (is_dash fields) _ (weyl_of sizes fields) (refl, none-indices sizes.l) (bind-all P (numbers _ fields) _ (λ indices are. (refl, All-from_recursion (λ i. is_within (pos 1) (pos sizes.l) i ≡ true) indices (numbers-ok _ fields indices are).1)))))
 
-said-fits : (awaited : Wants) (sizes : Sizes) (listed : Listed) (bytes : List ℕ) (fields : List Span) → IfOk (said awaited sizes listed bytes fields) (Fits awaited sizes)
+said-fits : (awaited : Wants) (sizes : Sizes) (listed : Listed) (bytes : List ℕ) (fields : List Span) → IfOk (said awaited sizes listed bytes fields) (Fits awaited sizes listed)
 unfolding spoken
 said-fits awaited sizes listed bytes [] = tt
 said-fits awaited sizes listed bytes (first ∷ fields) =
-    let P = Fits awaited sizes in
+    let P = Fits awaited sizes listed in
     if-all P (begins_with 35 first.bytes) _ _ tt
     (bind-all P (none_at (foreign_from 1 bytes) _) _ (λ plain is. bind-all P (found (keyword_of first.bytes) _) _ (λ word is.
     unless-all P (not (is_command word) || sizes.loaded) _ _ (λ loaded. unless-all P (begins word awaited) _ _ (λ due.
-    subst (λ w. IfOk (own_line sizes listed word fields) (Fits w sizes)) (sym (begun word awaited due)) (own_line-fits sizes listed word fields))))))
+    subst (λ w. IfOk (own_line sizes listed word fields) (Fits w sizes listed)) (sym (begun word awaited due)) (own_line-fits sizes listed word fields))))))
 
 -- every line that passes its checks fits
 pub accepted-fits : AcceptedLinesFit
 unfolding reads
 accepted-fits awaited sizes listed bytes =
-    unless-all (Fits awaited sizes) (nat_le (length bytes) 65536) _ _ (λ short. said-fits awaited sizes listed bytes (fields_of bytes))
+    unless-all (Fits awaited sizes listed) (nat_le (length bytes) 65536) _ _ (λ short. said-fits awaited sizes listed bytes (fields_of bytes))

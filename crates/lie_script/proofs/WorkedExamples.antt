@@ -3,8 +3,9 @@ use Rattle.std.specs.Prelude.{◌≡◌, refl, ℕ, true, false, pos, negsuc, Li
 use Rattle.lie_letters.specs.declared.letter.Letter.TheVariants.{X, H}
 use Rattle.lie_script.specs.Fields.{fields_of}
 use Rattle.lie_script.specs.Numbers.{number_of, integer, number, numbers, natural}
-use Rattle.lie_script.specs.Letters.{spelled, unit, spelled_list, units, torus_letter, letter, few_letters, root_letter, letters, word}
+use Rattle.lie_script.specs.Letters.{spelled, unit, spelled_list, units, torus_letter, letter, few_letters, root_letter, weyl_letter, letters, word}
 use Rattle.lie_script.specs.Kinds.{field_of, field_line, vector, root_line, coroot_line, bare_line, word_line, weyl_line}
+use Rattle.lie_script.specs.Modules.{new_name, kind_line, module_line, matrix_line}
 use Rattle.lie_script.specs.Reading.{keyword_of, own_line, spoken, reads}
 use Rattle.lie_script.specs.declared.faults.FaultName.TheVariants as fault
 use Rattle.lie_script.specs.declared.faults.Fault.{Fault}
@@ -125,5 +126,5 @@ root_commands =
     []
 
 root_commands_read : IsRead wants.Command (record { d = 2; l = 2; m = 3; q = 5; dim = 0; loaded = true }) root_commands
-unfolding reads fields_of spoken keyword_of own_line word_line word letters few_letters letter torus_letter root_letter spelled unit spelled_list units number_of integer number numbers
+unfolding reads fields_of spoken keyword_of own_line word_line word letters few_letters letter torus_letter root_letter weyl_letter module_line kind_line new_name matrix_line spelled unit spelled_list units number_of integer number numbers
 root_commands_read = refl

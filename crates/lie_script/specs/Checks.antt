@@ -25,8 +25,8 @@ found (Some x) fault = Ok x
 
 -- the fault at a column, where there is one
 abbrev pub none_at : Option ℕ → FaultName → Result (Unit {0}) Fault
-none_at None name = Ok tt
-none_at (Some column) name = Err (At name column)
+none_at None which = Ok tt
+none_at (Some column) which = Err (At which column)
 
 -- the values of items, read from left to right
 abbrev pub each : {A B : Type 0} → (B → Result A Fault) → List B → Result (List A) Fault

@@ -5,6 +5,7 @@ pub mod Numbers
 pub mod Letters
 pub mod Names
 pub mod Kinds
+pub mod Modules
 pub mod Reading
 pub mod Setting
 pub mod Texts

@@ -1,8 +1,7 @@
 -- Names of modules.
 -- Own.
 use Rattle.std.specs.Prelude.{ℕ, List, [], Option, bytes_eq}
-use Rattle.std.specs.List.{IsDistinct}
-use Rattle.std.specs.Map.{lookup, keys_of}
+use Rattle.std.specs.Map.{lookup}
 
 -- names with their dimensions
 abbrev pub Listed : Type 0
@@ -15,8 +14,3 @@ dimension_of listed name = lookup (λ other. bytes_eq other name) listed
 -- no names
 abbrev pub none_listed : Listed
 none_listed = []
-
--- among no names none repeats
-pub none-repeats : IsDistinct bytes_eq (keys_of none_listed)
-unfolding IsDistinct
-none-repeats = tt

@@ -13,6 +13,7 @@ use Rattle.std.specs.Map.{lookup}
 use Rattle.lie_script.specs.Fields.{Span, fields_of, foreign_from, begins_with}
 use Rattle.lie_script.specs.Checks.{◌>>=◌, unless, found, none_at}
 use Rattle.lie_script.specs.Kinds.{field_line, datum_line, root_line, coroot_line, bare_line, word_line, constant_line, weyl_line}
+use Rattle.lie_script.specs.Modules.{module_line, matrix_line}
 use Rattle.lie_script.specs.Names.{Listed}
 use Rattle.lie_script.specs.declared.faults.FaultName.TheVariants as fault
 use Rattle.lie_script.specs.declared.faults.Fault.{Fault}
@@ -30,7 +31,8 @@ abbrev pub keywords : List (List ℕ × Keyword)
 keywords =
     (codes "field", keyword.Field) ∷ (codes "datum", keyword.Datum) ∷ (codes "root", keyword.Root)
     ∷ (codes "coroot", keyword.Coroot) ∷ (codes "load", keyword.Load) ∷ (codes "form", keyword.Form)
-    ∷ (codes "roots", keyword.Roots) ∷ (codes "constant", keyword.Constant) ∷ (codes "weyl", keyword.Weyl) ∷ []
+    ∷ (codes "roots", keyword.Roots) ∷ (codes "constant", keyword.Constant) ∷ (codes "weyl", keyword.Weyl)
+    ∷ (codes "module", keyword.Module) ∷ (codes "matrix", keyword.Matrix) ∷ []
 
 -- the word that the bytes spell
 unfoldable pub keyword_of : List ℕ → Option Keyword
@@ -38,11 +40,12 @@ keyword_of bytes = lookup (λ word. bytes_eq bytes word) keywords
 
 -- the commands of a loaded group
 abbrev pub is_command : Keyword → Bool
-is_command keyword.Form = true
-is_command keyword.Roots = true
-is_command keyword.Constant = true
-is_command keyword.Weyl = true
-is_command _ = false
+is_command keyword.Field = false
+is_command keyword.Datum = false
+is_command keyword.Root = false
+is_command keyword.Coroot = false
+is_command keyword.Load = false
+is_command _ = true
 
 -- whether a word is awaited
 abbrev pub begins : Keyword → Wants → Bool
@@ -67,6 +70,8 @@ own_line sizes listed keyword.Form fields = do
 own_line sizes listed keyword.Roots fields = bare_line line.Roots fields
 own_line sizes listed keyword.Constant fields = constant_line sizes fields
 own_line sizes listed keyword.Weyl fields = weyl_line sizes fields
+own_line sizes listed keyword.Module fields = module_line sizes listed fields
+own_line sizes listed keyword.Matrix fields = matrix_line sizes listed fields
 
 -- a line with a first field: its bytes, its word, whether a group is loaded, whether the word is awaited, its own checks
 unfoldable pub spoken : Wants → Sizes → Listed → List ℕ → Span → List Span → Result Line Fault

@@ -36,6 +36,16 @@ pub enum FaultName {
     Value,
     /// The two roots are equal or opposite.
     Opposite,
+    /// The field at a column spells no name of a module.
+    Name,
+    /// The field at a column is no kind of module.
+    Kind,
+    /// No module has the name at a column.
+    Unknown,
+    /// A module has the name at a column.
+    Taken,
+    /// As many modules are there as may be.
+    Full,
     /// The dimension is not in 1..=8, or there are more simple roots than that.
     Size,
     /// The input ended before it may.

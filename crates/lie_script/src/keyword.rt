@@ -16,6 +16,8 @@ pub enum Keyword {
     Roots,
     Constant,
     Weyl,
+    Module,
+    Matrix,
 }
 
 impl Keyword {
@@ -24,8 +26,9 @@ impl Keyword {
         ensures { result ≡ commands self }
     {
         match self {
-            Keyword::Form | Keyword::Roots | Keyword::Constant | Keyword::Weyl => true,
-            _ => false,
+            Keyword::Field | Keyword::Datum | Keyword::Root | Keyword::Coroot | Keyword::Load =>
+                false,
+            _ => true,
         }
     }
 
@@ -67,6 +70,10 @@ pub(crate) fn keyword_of(bytes: &[u8]) -> Option<Keyword>
         Some(Keyword::Constant)
     } else if bytes == b"weyl".as_slice() {
         Some(Keyword::Weyl)
+    } else if bytes == b"module".as_slice() {
+        Some(Keyword::Module)
+    } else if bytes == b"matrix".as_slice() {
+        Some(Keyword::Matrix)
     } else {
         None
     }

@@ -10,6 +10,7 @@ use crate::allowed::Allowed;
 use crate::faults::{Fault, FaultName, Stop};
 use crate::fields::LineField;
 use crate::kept::Numbers;
+use crate::letter_set::LetterSet;
 use crate::letters::word;
 use crate::line::Line;
 use crate::numbers::{natural, number, numbers};
@@ -20,7 +21,7 @@ use lie_letters::Word;
 use std::alloc::Global;
 
 /// The fault of a line with another number of fields than its kind asks for.
-fn miscounted(count: usize) -> Fault
+pub(crate) fn miscounted(count: usize) -> Fault
     ensures { result ≡ Fault.At FaultName.Fields count }
 {
     Fault::At(FaultName::Fields, count)
@@ -150,7 +151,7 @@ pub(crate) fn word_line(
     if fields.is_empty() {
         return Err(Stop::Faulty(miscounted(0)));
     }
-    word(alloc, sizes, field, datum, fields)
+    word(alloc, LetterSet::Borel, sizes, field, datum, fields)
 }
 
 /// The signed number of one of m positive roots or their opposites.

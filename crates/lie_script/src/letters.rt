@@ -4,12 +4,13 @@ ghost use Rattle.std.specs.List.{slice_split};
 ghost use Rattle.lie_field.specs.Quotient.{order};
 ghost use Rattle.lie_letters.specs.Entries.{AreUnits};
 ghost use Rattle.lie_script.specs.Checks.{Gives};
-ghost use Rattle.lie_script.specs.Letters.{is_comma, spelled as spelled_read, element as element_read, unit as unit_read, root as root_read, not_negative as not_negative_read, root_element as root_element_read, root_letter as root_letter_read, spelled_list as spelled_list_read, units as units_read, torus_letter as torus_letter_read, letter as letter_read, is_letter as letter_field, few_letters as few_letters_read, letters as letters_read, word as word_read};
+ghost use Rattle.lie_script.specs.Letters.{is_comma, spelled as spelled_read, element as element_read, unit as unit_read, root as root_read, not_negative as not_negative_read, root_element as root_element_read, root_letter as root_letter_read, takes_all as takes_all_read, simple as simple_read, weyl_letter as weyl_letter_read, spelled_list as spelled_list_read, units as units_read, torus_letter as torus_letter_read, letter as letter_read, is_letter as letter_field, few_letters as few_letters_read, letters as letters_read, word as word_read};
 ghost use Rattle.lie_script.specs.LineFields.{span, spans, bytes_of, pieces_of};
 ghost use Rattle.lie_script.specs.Setting.{HasField, HasDatum};
 
 use crate::faults::{Fault, FaultName, Stop};
 use crate::fields::{LineField, before_last, behind_first, place_of};
+use crate::letter_set::LetterSet;
 use crate::numbers::{number_of, unsigned};
 use crate::sizes::Sizes;
 use lie_datum::{Datum, RootId};
@@ -141,16 +142,24 @@ fn torus_letter(
     Ok(Letter::H(torus_of(field, &entries)))
 }
 
-/// The positive root of a number.
-fn root(sizes: &Sizes, datum: &Datum, column: usize, k: u64) -> Result<RootId, Fault>
+/// Whether every letter is taken.
+fn takes_all(taken: LetterSet) -> bool
+    ensures { result ≡ takes_all_read taken }
+{
+    taken == LetterSet::All
+}
+
+/// The root of the number k with the sign of these bytes.
+fn root(sizes: &Sizes, datum: &Datum, column: usize, number: &[u8], k: u64) -> Result<RootId, Fault>
     requires { HasDatum sizes.now datum.now }
-    ensures { result ≡ root_read sizes.now.m column k }
+    ensures { result ≡ root_read sizes.now.m column number.now k }
 {
     let m = datum.m();
     if k < 1 || k > m as u64 {
         return Err(Fault::At(FaultName::Root, column));
     }
     match datum.id(k as i32) {
+        Some(root) if number.first() == Some(&b'-') => Ok(root.opposite()),
         Some(root) => Ok(root),
         None => unreachable!(),
     }
@@ -165,6 +174,7 @@ fn not_negative(bytes: &[u8], k: u64) -> bool
 
 /// A root element by the bytes of its number and those between the parentheses.
 fn root_element(
+    taken: LetterSet,
     sizes: &Sizes,
     field: &Field,
     datum: &Datum,
@@ -174,20 +184,21 @@ fn root_element(
 ) -> Result<Letter, Fault>
     requires field { HasField sizes.now field.now }
     requires datum { HasDatum sizes.now datum.now }
-    ensures { result ≡ root_element_read sizes.now column number.now inner.now }
+    ensures { result ≡ root_element_read taken sizes.now column number.now inner.now }
 {
     let k = spelled(column, unsigned(number))?;
     let a = spelled(column, inner)?;
-    if !not_negative(number, k) {
+    if !takes_all(taken) && !not_negative(number, k) {
         return Err(misspelled(column));
     }
-    let root = root(sizes, datum, column, k)?;
+    let root = root(sizes, datum, column, number, k)?;
     Ok(Letter::X(root, element(field, column, a)?))
 }
 
-/// `x` was read: a number, and an element in parentheses. A negative number spells no letter here.
+/// `x` was read: a number, and an element in parentheses.
 #[tactic(auto, unfolding(crate::specs::Letters::root_letter))]
 fn root_letter(
+    taken: LetterSet,
     sizes: &Sizes,
     field: &Field,
     datum: &Datum,
@@ -196,20 +207,45 @@ fn root_letter(
 ) -> Result<Letter, Fault>
     requires field { HasField sizes.now field.now }
     requires datum { HasDatum sizes.now datum.now }
-    ensures { result ≡ root_letter_read sizes.now column bytes.now }
+    ensures { result ≡ root_letter_read taken sizes.now column bytes.now }
 {
     let at = place_of(b'(', bytes);
     if at >= bytes.len() {
         return Err(misspelled(column));
     }
     let inner = before_last(b')', &bytes[at + 1..]).ok_or(misspelled(column))?;
-    root_element(sizes, field, datum, column, &bytes[..at], inner)
+    root_element(taken, sizes, field, datum, column, &bytes[..at], inner)
+}
+
+/// The index of a simple root.
+fn simple(sizes: &Sizes, column: usize, digits: &[u8]) -> Result<u8, Fault>
+    requires { sizes.now.l ≤ 8 }
+    ensures { result ≡ simple_read sizes.now.l column digits.now }
+{
+    let i = spelled(column, digits)?;
+    if i < 1 || i > sizes.l as u64 {
+        return Err(Fault::At(FaultName::Simple, column));
+    }
+    Ok(i as u8)
+}
+
+/// `n` was read: an index, and `'` for the inverse.
+#[tactic(auto, unfolding(crate::specs::Letters::weyl_letter))]
+fn weyl_letter(sizes: &Sizes, column: usize, bytes: &[u8]) -> Result<Letter, Fault>
+    requires { sizes.now.l ≤ 8 }
+    ensures { result ≡ weyl_letter_read sizes.now column bytes.now }
+{
+    match before_last(b'\'', bytes) {
+        Some(digits) => Ok(Letter::Ninv(simple(sizes, column, digits)?)),
+        None => Ok(Letter::N(simple(sizes, column, bytes)?)),
+    }
 }
 
 /// A letter, whose kind is told by its first byte.
 #[tactic(auto, unfolding(crate::specs::Letters::letter))]
 fn letter(
     alloc: Global,
+    taken: LetterSet,
     sizes: &Sizes,
     field: &Field,
     datum: &Datum,
@@ -217,12 +253,15 @@ fn letter(
 ) -> Result<Letter, Stop>
     requires field { HasField sizes.now field.now }
     requires datum { HasDatum sizes.now datum.now }
-    ensures { Gives (λ letter. letter) result (letter_read sizes.now (span spelled.now)) }
+    ensures { Gives (λ letter. letter) result (letter_read taken sizes.now (span spelled.now)) }
 {
+    datum.loaded();
+    let _l = datum.l();
     let column = spelled.column;
     match spelled.bytes {
         [b'h', rest @ ..] => torus_letter(alloc, sizes, field, datum, column, rest),
-        [b'x', rest @ ..] => Ok(root_letter(sizes, field, datum, column, rest)?),
+        [b'x', rest @ ..] => Ok(root_letter(taken, sizes, field, datum, column, rest)?),
+        [b'n', rest @ ..] if takes_all(taken) => Ok(weyl_letter(sizes, column, rest)?),
         _ => Err(Stop::Faulty(misspelled(column))),
     }
 }
@@ -262,6 +301,7 @@ fn few_letters(fields: &[LineField<'_>]) -> Result<(), Fault>
 /// Letters, from left to right.
 fn letters(
     alloc: Global,
+    taken: LetterSet,
     sizes: &Sizes,
     field: &Field,
     datum: &Datum,
@@ -269,12 +309,12 @@ fn letters(
 ) -> Result<Word, Stop>
     requires field { HasField sizes.now field.now }
     requires datum { HasDatum sizes.now datum.now }
-    ensures { Gives (λ word. word) result (letters_read sizes.now (spans fields.now)) }
+    ensures { Gives (λ word. word) result (letters_read taken sizes.now (spans fields.now)) }
 {
     let mut word = Word::new(alloc);
     'letters: for spelled in fields {
         if is_letter(spelled) {
-            word.push(letter(alloc, sizes, field, datum, spelled)?)?;
+            word.push(letter(alloc, taken, sizes, field, datum, spelled)?)?;
         }
     }
     Ok(word)
@@ -284,6 +324,7 @@ fn letters(
 #[tactic(auto, unfolding(crate::specs::Letters::word))]
 pub(crate) fn word(
     alloc: Global,
+    taken: LetterSet,
     sizes: &Sizes,
     field: &Field,
     datum: &Datum,
@@ -291,8 +332,8 @@ pub(crate) fn word(
 ) -> Result<Word, Stop>
     requires field { HasField sizes.now field.now }
     requires datum { HasDatum sizes.now datum.now }
-    ensures { Gives (λ word. word) result (word_read sizes.now (spans fields.now)) }
+    ensures { Gives (λ word. word) result (word_read taken sizes.now (spans fields.now)) }
 {
     few_letters(fields)?;
-    letters(alloc, sizes, field, datum, fields)
+    letters(alloc, taken, sizes, field, datum, fields)
 }

@@ -1,5 +1,5 @@
 //! What a line says.
-use crate::kept::Numbers;
+use crate::kept::{Numbers, Text};
 use lie_letters::Word;
 
 /// A line that passed the checks of reading, with the values that its fields spell.
@@ -31,4 +31,18 @@ pub enum Line {
     },
     /// The indices of simple reflections, counted from 1; the last acts first.
     Weyl(Numbers),
+    /// The name of the adjoint module.
+    Adjoint {
+        name: Text,
+    },
+    /// The name of an orbit's module, and a weight of the orbit.
+    Orbit {
+        name: Text,
+        v: Numbers,
+    },
+    /// The name of a module, and a word with letters of every kind.
+    Matrix {
+        name: Text,
+        w: Word,
+    },
 }

@@ -15,6 +15,7 @@ use crate::kinds::{
     bare_line, constant_line, coroot_line, datum_line, field_line, root_line, weyl_line, word_line,
 };
 use crate::line::Line;
+use crate::modules::{matrix_line, module_line};
 use crate::names::Names;
 use crate::sizes::{Sizes, Wants};
 use lie_datum::Datum;
@@ -42,7 +43,7 @@ fn both<'a>(field: Option<&'a Field>, datum: Option<&'a Datum>) -> (&'a Field, &
 fn own_line<N: Names>(
     alloc: Global,
     sizes: &Sizes,
-    _names: &N,
+    names: &N,
     field: Option<&Field>,
     datum: Option<&Datum>,
     keyword: Keyword,
@@ -50,8 +51,9 @@ fn own_line<N: Names>(
 ) -> Result<Line, Stop>
     requires field { IfSome (option_copied field) (HasField sizes.now) }
     requires datum { IfSome (option_copied datum) (HasDatum sizes.now) }
+    requires short { length spelled.now ≤ 65536 }
     requires both { is_command keyword ≡ true → IsSome (option_copied field) × IsSome (option_copied datum) }
-    ensures { Gives (λ line. line) result (own_line_read sizes.now (N.listed _names.now) keyword (spans spelled.now)) }
+    ensures { Gives (λ line. line) result (own_line_read sizes.now (N.listed names.now) keyword (spans spelled.now)) }
 {
     match keyword {
         Keyword::Field => field_line(alloc, spelled),
@@ -69,6 +71,11 @@ fn own_line<N: Names>(
             Ok(constant_line(sizes, datum, spelled)?)
         }
         Keyword::Weyl => weyl_line(alloc, sizes, spelled),
+        Keyword::Module => module_line(alloc, sizes, names, spelled),
+        Keyword::Matrix => {
+            let (field, datum) = both(field, datum);
+            matrix_line(alloc, sizes, names, field, datum, spelled)
+        }
     }
 }
 
@@ -87,6 +94,7 @@ fn spoken<N: Names>(
 ) -> Result<Line, Stop>
     requires setting { IsSetting wants sizes.now (option_copied field) (option_copied datum) }
     requires short { length line.now ≤ 65536 }
+    requires few { length spelled.now ≤ 65536 }
     ensures { Gives (λ line. line) result (spoken_read wants sizes.now (N.listed names.now) line.now (span first.now) (spans spelled.now)) }
 {
     if let Some(column) = foreign_column(line) {

@@ -38,6 +38,11 @@ impl FaultName {
             FaultName::Torus => b"torus".as_slice(),
             FaultName::Value => b"value".as_slice(),
             FaultName::Opposite => b"opposite".as_slice(),
+            FaultName::Name => b"name".as_slice(),
+            FaultName::Kind => b"kind".as_slice(),
+            FaultName::Unknown => b"unknown".as_slice(),
+            FaultName::Taken => b"taken".as_slice(),
+            FaultName::Full => b"full".as_slice(),
             FaultName::Size => b"size".as_slice(),
             FaultName::End => b"end".as_slice(),
         }

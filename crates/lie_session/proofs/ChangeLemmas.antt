@@ -1,23 +1,26 @@
 -- What a reply changes in a session.
-use Rattle.std.proofs.Common.{◌≡◌, ℕ, Bool, true, false, cond, List, Option, Some, None, refl, sym, ap, ◌∙◌, subst, inl, inr, Result, Ok, Err}
+use Rattle.std.proofs.Common.{◌≡◌, ℕ, Bool, true, false, cond, List, [], ◌∷◌, ◌++◌, Option, Some, None, refl, sym, ap, ◌∙◌, subst, inl, inr, Result, Ok, Err}
 use Rattle.std.specs.Prelude.{MatchOption, MatchResult, IfOk, ℤ}
 use Rattle.std.specs.Bool.{MatchBool}
 use Rattle.std.specs.Option.{IfSome}
+use Rattle.lie_audit.specs.WordMatrix.{word_matrix}
+use Rattle.lie_const.specs.Modules.{Module, dimension}
 use Rattle.lie_const.specs.Signs.{SignTable}
 use Rattle.lie_datum.specs.RootList.{Roots, IsLoaded}
 use Rattle.lie_field.specs.FiniteField.{FiniteField}
 use Rattle.lie_field.specs.Faults.{IsSized}
-use Rattle.lie_script.specs.Names.{none_listed}
 use Rattle.lie_script.specs.Reading.{reads}
 use Rattle.lie_script.specs.Texts.{line_fault}
 use Rattle.lie_script.specs.declared.faults.Fault.{Fault}
 use Rattle.lie_script.specs.declared.line.Line.{Line}
 use Rattle.lie_script.specs.declared.line.Line.TheVariants as line
 use Rattle.lie_session.specs.DatumLines.{DatumLines, opened, with_root, with_coroot, is_whole}
-use Rattle.lie_session.specs.Faults.{field_refusal, datum_refusal, constants_refusal, signs_refusal, braid_refusal}
+use Rattle.lie_session.specs.Faults.{field_refusal, datum_refusal, constants_refusal, signs_refusal, braid_refusal, orbit_refusal}
 use Rattle.lie_session.specs.State.{State, whole, wants_of, sizes_of}
+use Rattle.lie_reply.specs.Modules.{module_text, matrix_text}
 use Rattle.lie_reply.specs.Texts.{loaded_text, roots_text}
-use Rattle.lie_session.specs.Replies.{next_count, Refuses, Accepts, Answers, AnswersForm, AnswersConstant, AnswersWeyl, KeepsField, KeepsDatum, ReadsDatum, LoadsBraids, LoadsSigns, LoadsGroup, InDatum, Does, Replies, line_refusal}
+use Rattle.lie_session.specs.Named.{module_of, listed_of}
+use Rattle.lie_session.specs.Replies.{next_count, Refuses, Accepts, Answers, AnswersForm, AnswersConstant, AnswersWeyl, KeepsField, KeepsDatum, ReadsDatum, LoadsBraids, LoadsSigns, LoadsGroup, InDatum, NamesModule, NamesAdjoint, NamesOrbit, WithSigns, AnswersMatrix, Does, Replies, line_refusal}
 use Rattle.lie_session.specs.Changes.{Changes}
 use Rattle.lie_session.specs.declared.datum.DatumStage.{DatumStage}
 use Rattle.lie_session.specs.declared.datum.DatumStage.TheVariants as datum
@@ -32,7 +35,8 @@ pub data Moved (s : State) : State → Type 0 where
   keeps_field : (F : FiniteField) → IsSized F.given → Moved s (record s { field = Some F })
   reads_datum : (lines : DatumLines) → Moved s (record s { datum = datum.Reading lines })
   keeps_datum : (D : Roots) → IsLoaded D → Moved s (record s { datum = datum.Whole D })
-  loads : Moved s (record s { loaded = true })
+  loads : (t : SignTable) → Moved s (record s { loaded = true; signs = Some t })
+  names : (name : List ℕ) (v : Module) → Moved s (record s { modules = s.modules ++ (name, v) ∷ [] })
 
 -- what a reply changes, and where it leads
 abbrev Steps : State → Reply → State → Type 0
@@ -81,11 +85,11 @@ datum_steps s n lines reply next (inl h) = accepts_steps s (record s { datum = d
 datum_steps s n lines reply next (inr h) = refuses_steps s (datum_refusal n lines.rank h.0) reply next h.3
 
 braids_steps : (s : State) (n : ℕ) (F : FiniteField) (D : Roots) (signs : SignTable) (reply : Reply) (next : State) → LoadsBraids s n F D signs reply next → Steps s reply next
-braids_steps s n F D signs reply next (inl h) = answers_steps s (record s { loaded = true }) (loaded_text F D) reply next refl refl loads h.1
+braids_steps s n F D signs reply next (inl h) = answers_steps s (record s { loaded = true; signs = Some signs }) (loaded_text F D) reply next refl refl (loads signs) h.1
 braids_steps s n F D signs reply next (inr h) = refuses_steps s (braid_refusal n h.0 h.1 h.2) reply next h.4
 
 signs_steps : (s : State) (n : ℕ) (F : FiniteField) (D : Roots) (reply : Reply) (next : State) → LoadsSigns s n F D reply next → Steps s reply next
-signs_steps s n F D reply next (inl h) = braids_steps s n F D h.1 reply next h.4
+signs_steps s n F D reply next (inl h) = braids_steps s n F D h.1 reply next h.5
 signs_steps s n F D reply next (inr h) = refuses_steps s (signs_refusal n h.1) reply next h.5
 
 group_steps : (s : State) (n : ℕ) (F : FiniteField) (D : Roots) (reply : Reply) (next : State) → LoadsGroup s n F D reply next → Steps s reply next
@@ -96,6 +100,18 @@ joined_steps : (last : Bool) (s : State) (n : ℕ) (lines : DatumLines) (reply :
     → MatchBool last (KeepsDatum s n lines reply next) (Accepts (record s { datum = datum.Reading lines }) reply next) → Steps s reply next
 joined_steps true s n lines reply next h = datum_steps s n lines reply next h
 joined_steps false s n lines reply next h = accepts_steps s (record s { datum = datum.Reading lines }) reply next refl refl (reads_datum lines) h
+
+-- a command with a value that is there
+pub with_some : {A P : Type 0} (Q : A → Type 0) (o : Option A) → ((a : A) → Q a → P) → MatchOption o ⊥ Q → P
+with_some Q None go h = absurd h
+with_some Q (Some a) go h = go a h
+
+named_steps : (s : State) (name : List ℕ) (v : Module) (reply : Reply) (next : State) → NamesModule s name v reply next → Steps s reply next
+named_steps s name v reply next h = answers_steps s (record s { modules = s.modules ++ (name, v) ∷ [] }) (module_text name (dimension v)) reply next refl refl (names name v) h
+
+orbit_steps : (s : State) (n : ℕ) (D : Roots) (t : SignTable) (name : List ℕ) (w : List ℤ) (reply : Reply) (next : State) → NamesOrbit s n D t name w reply next → Steps s reply next
+orbit_steps s n D t name w reply next (inl h) = named_steps s name h.0 reply next h.2
+orbit_steps s n D t name w reply next (inr h) = refuses_steps s (orbit_refusal n h.0) reply next h.3
 
 does_steps : (s : State) (n : ℕ) (said : Line) (reply : Reply) (next : State) → Does s n said reply next → Steps s reply next
 does_steps s n line.Silent reply next h = accepts_steps s s reply next refl refl stays h
@@ -115,6 +131,13 @@ does_steps s n (line.Constant p q) reply next h =
     with_both (λ F D. AnswersConstant s D p q reply next) s.field (whole s.datum) (λ F D a. answers_steps s s a.0 reply next refl refl stays a.2) h
 does_steps s n (line.Weyl indices) reply next h =
     with_both (λ F D. AnswersWeyl s D indices reply next) s.field (whole s.datum) (λ F D a. answers_steps s s a.0 reply next refl refl stays a.2) h
+does_steps s n (line.Adjoint name) reply next h =
+    with_both (λ F D. NamesAdjoint s D name reply next) s.field (whole s.datum) (λ F D a. named_steps s name a.0 reply next a.2) h
+does_steps s n (line.Orbit name w) reply next h =
+    with_both (λ F D. WithSigns s (λ t. NamesOrbit s n D t name w reply next)) s.field (whole s.datum) (λ F D a. with_some (λ t. NamesOrbit s n D t name w reply next) s.signs (λ t b. orbit_steps s n D t name w reply next b) a) h
+does_steps s n (line.Matrix name w) reply next h =
+    with_both (λ F D. AnswersMatrix s F name w reply next) s.field (whole s.datum)
+    (λ F D a. with_some (λ v. Answers s (matrix_text (word_matrix F v w)) reply next) (module_of s.modules name) (λ v b. answers_steps s s (matrix_text (word_matrix F v w)) reply next refl refl stays b) a) h
 
 replied_steps : (s : State) (n : ℕ) (read : Result Line Fault) (reply : Reply) (next : State)
     → MatchResult read (λ said. Does s n said reply next) (λ why. Refuses s (line_refusal n (line_fault why)) reply next) → Steps s reply next
@@ -122,7 +145,7 @@ replied_steps s n (Ok said) reply next h = does_steps s n said reply next h
 replied_steps s n (Err why) reply next h = refuses_steps s (line_refusal n (line_fault why)) reply next h
 
 steps_from : (s : State) (n : ℕ) (bytes : List ℕ) (reply : Reply) (next : State) → Replies s n bytes reply next → Steps s reply next
-steps_from s n bytes reply next h = replied_steps s n (reads (wants_of s) (sizes_of s) none_listed bytes) reply next h
+steps_from s n bytes reply next h = replied_steps s n (reads (wants_of s) (sizes_of s) (listed_of s.modules) bytes) reply next h
 
 -- a reply changes what its kind says
 pub changes_from : (s : State) (n : ℕ) (bytes : List ℕ) (reply : Reply) (next : State) → Replies s n bytes reply next → Changes s reply.kind next
@@ -147,7 +170,8 @@ sound_moved s _ sound ends = record { sized = sound.sized; loaded = sound.loaded
 sound_moved s _ sound (keeps_field F sized) = record { sized = sized; loaded = sound.loaded }
 sound_moved s _ sound (reads_datum lines) = record { sized = sound.sized; loaded = tt }
 sound_moved s _ sound (keeps_datum D axioms) = record { sized = sound.sized; loaded = axioms }
-sound_moved s _ sound loads = record { sized = sound.sized; loaded = sound.loaded }
+sound_moved s _ sound (names name v) = record { sized = sound.sized; loaded = sound.loaded }
+sound_moved s _ sound (loads t) = record { sized = sound.sized; loaded = sound.loaded }
 
 -- what a line brings is sound
 pub sound_from : (s : State) (n : ℕ) (bytes : List ℕ) (reply : Reply) (next : State) → IsSoundState s → Replies s n bytes reply next → IsSoundState next

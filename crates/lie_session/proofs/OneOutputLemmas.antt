@@ -15,7 +15,6 @@ use Rattle.lie_field.specs.declared.faults.FieldFault.{FieldFault}
 use Rattle.lie_field.specs.declared.faults.FieldFault.TheVariants as field_fault
 use Rattle.lie_field.proofs.FaultLemmas.{faults_once, field_has_no_fault}
 use Rattle.lie_letters.specs.declared.letter.Letter.{Letter}
-use Rattle.lie_script.specs.Names.{none_listed}
 use Rattle.lie_script.specs.Reading.{reads}
 use Rattle.lie_script.specs.Texts.{line_fault}
 use Rattle.lie_script.specs.declared.faults.Fault.{Fault}
@@ -25,8 +24,11 @@ use Rattle.lie_session.specs.DatumLines.{DatumLines, opened, with_root, with_cor
 use Rattle.lie_session.specs.Faults.{field_refusal, datum_refusal}
 use Rattle.lie_session.specs.Lines.{lines_of}
 use Rattle.lie_session.specs.State.{State, fresh, whole, wants_of, sizes_of}
+use Rattle.lie_audit.specs.WordMatrix.{word_matrix}
+use Rattle.lie_reply.specs.Modules.{matrix_text}
 use Rattle.lie_reply.specs.Texts.{roots_text}
-use Rattle.lie_session.specs.Replies.{Refuses, Accepts, Answers, KeepsField, KeepsDatum, ReadsDatum, LoadsGroup, InDatum, AnswersForm, AnswersConstant, AnswersWeyl, Does, Replies, RepliesAtEnd, line_refusal}
+use Rattle.lie_session.specs.Named.{module_of, listed_of}
+use Rattle.lie_session.specs.Replies.{Refuses, Accepts, Answers, KeepsField, KeepsDatum, ReadsDatum, LoadsGroup, InDatum, AnswersForm, AnswersConstant, AnswersWeyl, NamesAdjoint, NamesOrbit, WithSigns, AnswersMatrix, Does, Replies, RepliesAtEnd, line_refusal}
 use Rattle.lie_session.specs.Output.{rests, RepliesTo, AreReplies, bytes_of, status_of, IsOutput}
 use Rattle.lie_session.specs.declared.datum.DatumStage.{DatumStage}
 use Rattle.lie_session.specs.declared.datum.DatumStage.TheVariants as datum
@@ -37,7 +39,7 @@ use Rattle.lie_session.proofs.ChangeLemmas.{IsSoundState, sound_from}
 use Rattle.lie_reply.proofs.ConstantLemmas.{one_constant_text}
 use Rattle.lie_reply.proofs.TextLemmas.{one_text}
 use Rattle.lie_reply.proofs.WeylLemmas.{one_weyl_text}
-use Rattle.lie_session.proofs.OneLoading.{Same, both, refused_alike, one_loading}
+use Rattle.lie_session.proofs.OneLoading.{Same, both, refused_alike, one_loading, one_adjoint_name, one_orbit_name}
 
 -- a field within the limits has no fault
 no_fault : (given : FieldData) (F : FiniteField) (why : FieldFault) → F.given ≡ given → IsSized F.given → IsFault given why → why ≡ field_fault.NoMemory
@@ -132,6 +134,18 @@ one_group s n None d r r' t t' loaded h h' = absurd h
 one_group s n (Some F) None r r' t t' loaded h h' = absurd h
 one_group s n (Some F) (Some D) r r' t t' loaded h h' = one_loading s n F D r r' t t' loaded h h'
 
+-- of two replies by the field, the datum and one more value
+one_with : (P P' : FiniteField → Roots → Type 0) (field : Option FiniteField) (d : Option Roots) (r r' : Reply) (t t' : State) → IfSome d IsLoaded
+    → ((F : FiniteField) (D : Roots) → IsLoaded D → P F D → P' F D → Same r r' t t')
+    → MatchOption field ⊥ (λ F. MatchOption d ⊥ (λ D. P F D)) → MatchOption field ⊥ (λ F. MatchOption d ⊥ (λ D. P' F D)) → Same r r' t t'
+one_with P P' None d r r' t t' loaded go h h' = absurd h
+one_with P P' (Some F) None r r' t t' loaded go h h' = absurd h
+one_with P P' (Some F) (Some D) r r' t t' loaded go h h' = go F D loaded h h'
+
+one_some : {A : Type 0} (P P' : A → Type 0) (o : Option A) (r r' : Reply) (t t' : State) → ((a : A) → P a → P' a → Same r r' t t') → MatchOption o ⊥ P → MatchOption o ⊥ P' → Same r r' t t'
+one_some P P' None r r' t t' go h h' = absurd h
+one_some P P' (Some a) r r' t t' go h h' = go a h h'
+
 one_done : (s : State) (n : ℕ) (said : Line) (r r' : Reply) (t t' : State) → IsSoundState s → Does s n said r t → Does s n said r' t' → Same r r' t t'
 one_done s n line.Silent r r' t t' sound h h' = both h h'
 one_done s n (line.Field p k coeffs g) r r' t t' sound h h' = one_field s n p coeffs g r r' t t' h h'
@@ -143,6 +157,14 @@ one_done s n (line.Form w) r r' t t' sound h h' = one_form s w s.field (whole s.
 one_done s n line.Roots r r' t t' sound h h' = one_answer s (λ F D. roots_text D) s.field (whole s.datum) r r' t t' h h'
 one_done s n (line.Constant p q) r r' t t' sound h h' = one_constant s p q s.field (whole s.datum) r r' t t' sound.loaded h h'
 one_done s n (line.Weyl indices) r r' t t' sound h h' = one_weyl s indices s.field (whole s.datum) r r' t t' sound.loaded h h'
+one_done s n (line.Adjoint name) r r' t t' sound h h' =
+    one_with (λ F D. NamesAdjoint s D name r t) (λ F D. NamesAdjoint s D name r' t') s.field (whole s.datum) r r' t t' sound.loaded (λ F D loaded a b. one_adjoint_name s D name r r' t t' loaded a b) h h'
+one_done s n (line.Orbit name w) r r' t t' sound h h' =
+    one_with (λ F D. WithSigns s (λ signs. NamesOrbit s n D signs name w r t)) (λ F D. WithSigns s (λ signs. NamesOrbit s n D signs name w r' t')) s.field (whole s.datum) r r' t t' sound.loaded
+    (λ F D loaded a b. one_some (λ signs. NamesOrbit s n D signs name w r t) (λ signs. NamesOrbit s n D signs name w r' t') s.signs r r' t t' (λ signs x y. one_orbit_name s n D signs name w r r' t t' loaded x y) a b) h h'
+one_done s n (line.Matrix name w) r r' t t' sound h h' =
+    one_with (λ F D. AnswersMatrix s F name w r t) (λ F D. AnswersMatrix s F name w r' t') s.field (whole s.datum) r r' t t' sound.loaded
+    (λ F D loaded a b. one_some (λ v. Answers s (matrix_text (word_matrix F v w)) r t) (λ v. Answers s (matrix_text (word_matrix F v w)) r' t') (module_of s.modules name) r r' t t' (λ v x y. both x y) a b) h h'
 
 one_said : (s : State) (n : ℕ) (read : Result Line Fault) (r r' : Reply) (t t' : State) → IsSoundState s
     → MatchResult read (λ said. Does s n said r t) (λ why. Refuses s (line_refusal n (line_fault why)) r t)
@@ -152,7 +174,7 @@ one_said s n (Err why) r r' t t' sound h h' = both h h'
 
 -- a line has one reply
 one_reply : (s : State) (n : ℕ) (bytes : List ℕ) (r r' : Reply) (t t' : State) → IsSoundState s → Replies s n bytes r t → Replies s n bytes r' t' → Same r r' t t'
-one_reply s n bytes r r' t t' sound h h' = one_said s n (reads (wants_of s) (sizes_of s) none_listed bytes) r r' t t' sound h h'
+one_reply s n bytes r r' t t' sound h h' = one_said s n (reads (wants_of s) (sizes_of s) (listed_of s.modules) bytes) r r' t t' sound h h'
 
 -- lines have the same replies
 one_run : (mode : Mode) (s : State) (n : ℕ) (lines : List (List ℕ)) (a b : List Reply) (t u : State) → IsSoundState s → RepliesTo mode s n lines a t → RepliesTo mode s n lines b u → (a ≡ b) × (t ≡ u)

@@ -1,14 +1,21 @@
 -- What is awaited tells what a session holds.
-use Rattle.std.proofs.Common.{◌≡◌, ◌≢◌, ℕ, Bool, true, false, cond, Option, Some, None, refl, sym, ap, ◌∙◌, subst, arith, Result, Ok, Err, length, List, pos, zero, suc, negsuc, nat_abs}
-use Rattle.std.specs.Prelude.{⊤, ◌||◌, nat_lt, MatchResult, IfOk, ℤ}
+use Rattle.std.proofs.Common.{◌≡◌, ◌≢◌, ℕ, Bool, true, false, cond, Option, Some, None, refl, sym, ap, ◌∙◌, subst, arith, Result, Ok, Err, length, get_or, List, pos, zero, suc, negsuc, nat_abs}
+use Rattle.std.specs.Prelude.{⊤, bytes_eq, replicate, unsigned_abs, ◌-◌, ◌≤◌, ◌||◌, nat_lt, MatchResult, IfOk, ℤ}
 use Rattle.std.specs.List.{All}
 use Rattle.std.specs.Option.{IfSome, IsSome, IsSomeAnd}
 use Rattle.std.proofs.lemmas.Result.{IfOk-at_ok}
 use Rattle.std.proofs.lemmas.Bool.{false≢true}
+use Rattle.std.specs.Option.{option_map}
 use Rattle.std.proofs.lemmas.Int.{ints}
+use Rattle.std.proofs.lemmas.List.Elements.{All-append, All-replicate, All-from_recursion}
+use Rattle.std.proofs.lemmas.Map.Made.{lookup-map_values}
+use Rattle.std.proofs.lemmas.Map.Entries.{All-lookup}
 use Rattle.lie_const.specs.CommutatorTerms.{IsPair}
 use Rattle.lie_const.specs.ConstantTables.{ConstantTable}
-use Rattle.lie_datum.specs.RootList.{Roots, IsNumber}
+use Rattle.lie_audit.specs.WordMatrix.{IsWordFor, frame_with}
+use Rattle.lie_const.specs.Modules.{Module, IsModule, dimension}
+use Rattle.lie_datum.specs.RootDatum.{IsWithin}
+use Rattle.lie_datum.specs.RootList.{Roots, IsNumber, IsLoaded}
 use Rattle.lie_datum.proofs.NumberLemmas.{some_within}
 use Rattle.lie_datum.proofs.SignedRoots.{opposite_number}
 use Rattle.lie_field.specs.FiniteField.{FiniteField}
@@ -17,7 +24,7 @@ use Rattle.lie_letters.specs.Frames.{FrameData}
 use Rattle.lie_letters.specs.Spelled.{IsWordOver}
 use Rattle.lie_letters.specs.declared.letter.Letter.{Letter}
 use Rattle.lie_script.specs.Accepted.{Fits}
-use Rattle.lie_script.specs.Names.{none_listed}
+use Rattle.lie_script.specs.Names.{dimension_of}
 use Rattle.lie_script.specs.Numbers.{is_within, allows}
 use Rattle.lie_script.specs.Reading.{reads}
 use Rattle.lie_script.specs.Setting.{HasField, HasDatum, awaits_both, IsSetting, answer_of}
@@ -33,8 +40,9 @@ use Rattle.lie_script.proofs.CallerLemmas.{accepted-fits, answer-keeps}
 use Rattle.lie_reply.specs.Commands.{AreIndices}
 use Rattle.lie_reply.specs.Forms.{frame_of}
 use Rattle.lie_script.specs.declared.sizes.Sizes.{Sizes}
-use Rattle.lie_session.specs.DatumLines.{DatumLines, opened, with_root, with_coroot}
-use Rattle.lie_session.specs.Ready.{Holds, Ready}
+use Rattle.lie_session.specs.DatumLines.{DatumLines, opened, padded, with_root, with_coroot}
+use Rattle.lie_session.specs.Named.{Named, module_of, listed_of}
+use Rattle.lie_session.specs.Ready.{Holds, HasModules, Ready}
 use Rattle.lie_session.specs.Replies.{InDatum, ReadsDatum, Refuses, Does, Replies, line_refusal}
 use Rattle.lie_session.specs.State.{State, whole, wants_from, wants_of, dim_of, rank_of, count_of, order_of, sizes_of}
 use Rattle.lie_session.specs.declared.datum.DatumStage.{DatumStage}
@@ -178,8 +186,46 @@ pair_from (Some F) datum.Missing p q there h g apart = absurd (false≢true ther
 pair_from (Some F) (datum.Reading lines) p q there h g apart = absurd (false≢true there.1)
 pair_from (Some F) (datum.Whole D) p q there h g apart = pair_of D p q h g apart
 
+-- ---- modules
+
+long_from : (stage : DatumStage) (n : ℕ) → IsSome (whole stage) → n ≡ dim_of stage → IsSomeAnd (whole stage) (λ D. n ≡ D.base.dim)
+long_from datum.Missing n there long = absurd (false≢true there)
+long_from (datum.Reading lines) n there long = absurd (false≢true there)
+long_from (datum.Whole D) n there long = long
+
+-- a number within the limits of a line is small
+within_small : (c : ℤ) → is_within (negsuc 99) (pos 100) c ≡ true → unsigned_abs c ≤ 100
+within_small (pos n) h = grind (arith, h)
+within_small (negsuc n) h = grind (arith, h)
+
+padded_within : (w : List ℤ) → All (λ c. is_within (negsuc 99) (pos 100) c ≡ true) w → IsWithin 100 (padded w)
+padded_within w h =
+    All-append (λ c. unsigned_abs c ≤ 100) w (replicate (8 - length w) (pos 0))
+    (λ i d l. within_small (get_or w i d) (h i d l))
+    (All-replicate (λ c. unsigned_abs c ≤ 100) (8 - length w) (pos 0) (omega arith))
+
+-- the word of a line is a word of the group, by every table of constants
+abbrev LettersFor : Option FiniteField → DatumStage → List Letter → Type 0
+LettersFor field stage w = IsSomeAnd field (λ F. IsSomeAnd (whole stage) (λ D. IsLoaded D → IsWordFor F D w))
+
+letters_from : (field : Option FiniteField) (stage : DatumStage) (loaded : Bool) (w : List Letter) → IsSome field × IsSome (whole stage)
+    → ((f : FrameData) → HasField (sizes_from field stage loaded) f.field → HasDatum (sizes_from field stage loaded) f.datum → IsLoaded f.datum → IsWordOver f w) → LettersFor field stage w
+letters_from None stage loaded w there over = absurd (false≢true there.0)
+letters_from (Some F) datum.Missing loaded w there over = absurd (false≢true there.1)
+letters_from (Some F) (datum.Reading lines) loaded w there over = absurd (false≢true there.1)
+letters_from (Some F) (datum.Whole D) loaded w there over = λ axioms c. over (frame_with F D c) refl (record { d_is = refl; l_is = refl; m_is = refl }) axioms
+
+some_mapped : {A B : Type 0} (g : A → B) (o : Option A) → IsSome (option_map g o) → IsSome o
+some_mapped g None h = h
+some_mapped g (Some a) h = refl
+
+-- a name that is listed has a module
+known_from : (modules : Named) (name : List ℕ) → IsSome (dimension_of (listed_of modules) name) → IsSome (module_of modules name)
+known_from modules name h =
+    some_mapped dimension (module_of modules name) (subst IsSome (lookup-map_values dimension (λ other. bytes_eq other name) modules) h)
+
 -- a session can do what a line says that fits
-ready_from : (s : State) (said : Line) → Holds s → Fits (wants_of s) (sizes_of s) said → Ready s said
+ready_from : (s : State) (said : Line) → Holds s → Fits (wants_of s) (sizes_of s) (listed_of s.modules) said → Ready s said
 ready_from s line.Silent holds fits = tt
 ready_from s (line.Field p k coeffs g) holds fits = (fits.1, fits.2)
 ready_from s (line.Datum d l) holds fits = (unloaded_datum s.field s.datum s.loaded holds fits.0, fits.2, omega (arith, fits.2, fits.3))
@@ -194,13 +240,22 @@ ready_from s line.Roots holds fits = later_from s.field s.datum s.loaded (subst 
 ready_from s (line.Constant p q) holds fits =
     let there = later_from s.field s.datum s.loaded (subst IsLater (sym fits.0) tt) in
     (sym (loaded_from s.field s.datum s.loaded there) ∙ ap is_late fits.0 ∙ late_command, pair_from s.field s.datum p q there fits.1 fits.2 fits.3)
+ready_from s (line.Adjoint name) holds fits =
+    let there = later_from s.field s.datum s.loaded (subst IsLater (sym fits.0) tt) in
+    (sym (loaded_from s.field s.datum s.loaded there) ∙ ap is_late fits.0 ∙ late_command, there.0, there.1)
+ready_from s (line.Orbit name w) holds fits =
+    let there = later_from s.field s.datum s.loaded (subst IsLater (sym fits.0) tt) in
+    (sym (loaded_from s.field s.datum s.loaded there) ∙ ap is_late fits.0 ∙ late_command, there.0, there.1, long_from s.datum (length w) there.1 fits.2, padded_within w fits.3)
+ready_from s (line.Matrix name w) holds fits =
+    let there = later_from s.field s.datum s.loaded (subst IsLater (sym fits.0) tt) in
+    (sym (loaded_from s.field s.datum s.loaded there) ∙ ap is_late fits.0 ∙ late_command, letters_from s.field s.datum s.loaded w there fits.2, known_from s.modules name fits.1)
 ready_from s (line.Weyl indices) holds fits = indices_from s.field s.datum indices (later_from s.field s.datum s.loaded (subst IsLater (sym fits.0) tt)) fits.1
 
 -- a session can do what a line says that was answered
-pub ready_said : (s : State) (bytes : List ℕ) (answer : Result Line LineFault) (said : Line) → Holds s → answer ≡ answer_of (reads (wants_of s) (sizes_of s) none_listed bytes) → answer ≡ Ok said → Ready s said
+pub ready_said : (s : State) (bytes : List ℕ) (answer : Result Line LineFault) (said : Line) → Holds s → answer ≡ answer_of (reads (wants_of s) (sizes_of s) (listed_of s.modules) bytes) → answer ≡ Ok said → Ready s said
 ready_said s bytes answer said holds is ok =
     ready_from s said holds
-    (IfOk-at_ok (Fits (wants_of s) (sizes_of s)) (sym is ∙ ok) (answer-keeps (Fits (wants_of s) (sizes_of s)) (reads (wants_of s) (sizes_of s) none_listed bytes) (accepted-fits (wants_of s) (sizes_of s) none_listed bytes)))
+    (IfOk-at_ok (Fits (wants_of s) (sizes_of s) (listed_of s.modules)) (sym is ∙ ok) (answer-keeps (Fits (wants_of s) (sizes_of s) (listed_of s.modules)) (reads (wants_of s) (sizes_of s) (listed_of s.modules) bytes) (accepted-fits (wants_of s) (sizes_of s) (listed_of s.modules) bytes)))
 
 replied_so : (s : State) (n : ℕ) (reply : Reply) (next : State) (read : Result Line Fault) (answer : Result Line LineFault) → answer ≡ answer_of read
     → MatchResult answer (λ said. Does s n said reply next) (λ why. Refuses s (line_refusal n why) reply next)
@@ -209,21 +264,36 @@ replied_so s n reply next (Ok said) answer is h = subst (λ (a : Result Line Lin
 replied_so s n reply next (Err why) answer is h = subst (λ (a : Result Line LineFault). MatchResult a (λ said. Does s n said reply next) (λ why. Refuses s (line_refusal n why) reply next)) is h
 
 -- the reply to a line that says this
-pub replies_said : (s : State) (n : ℕ) (bytes : List ℕ) (reply : Reply) (next : State) (answer : Result Line LineFault) (said : Line) → answer ≡ answer_of (reads (wants_of s) (sizes_of s) none_listed bytes)
+pub replies_said : (s : State) (n : ℕ) (bytes : List ℕ) (reply : Reply) (next : State) (answer : Result Line LineFault) (said : Line) → answer ≡ answer_of (reads (wants_of s) (sizes_of s) (listed_of s.modules) bytes)
     → answer ≡ Ok said → Does s n said reply next → Replies s n bytes reply next
 replies_said s n bytes reply next answer said is ok h =
-    replied_so s n reply next (reads (wants_of s) (sizes_of s) none_listed bytes) (Ok said) (sym ok ∙ is) h
+    replied_so s n reply next (reads (wants_of s) (sizes_of s) (listed_of s.modules) bytes) (Ok said) (sym ok ∙ is) h
 
 -- the reply to a line with this fault
-pub replies_fault : (s : State) (n : ℕ) (bytes : List ℕ) (reply : Reply) (next : State) (answer : Result Line LineFault) (why : LineFault) → answer ≡ answer_of (reads (wants_of s) (sizes_of s) none_listed bytes)
+pub replies_fault : (s : State) (n : ℕ) (bytes : List ℕ) (reply : Reply) (next : State) (answer : Result Line LineFault) (why : LineFault) → answer ≡ answer_of (reads (wants_of s) (sizes_of s) (listed_of s.modules) bytes)
     → answer ≡ Err why → Refuses s (line_refusal n why) reply next → Replies s n bytes reply next
 replies_fault s n bytes reply next answer why is err h =
-    replied_so s n reply next (reads (wants_of s) (sizes_of s) none_listed bytes) (Err why) (sym err ∙ is) h
+    replied_so s n reply next (reads (wants_of s) (sizes_of s) (listed_of s.modules) bytes) (Err why) (sym err ∙ is) h
 
-both_held : (P : FiniteField → Roots → Type 0) (field : Option FiniteField) (stage : DatumStage) (F : FiniteField) (D : Roots) → IsSomeAnd field (λ F. IsSomeAnd (whole stage) (λ D. P F D))
+pub both_held : (P : FiniteField → Roots → Type 0) (field : Option FiniteField) (stage : DatumStage) (F : FiniteField) (D : Roots) → IsSomeAnd field (λ F. IsSomeAnd (whole stage) (λ D. P F D))
     → field ≡ Some F → stage ≡ datum.Whole D → P F D
 both_held P field stage F D h field_is stage_is =
     subst (λ (z : DatumStage). IsSomeAnd (whole z) (λ D. P F D)) stage_is (subst (λ (o : Option FiniteField). IsSomeAnd o (λ F. IsSomeAnd (whole stage) (λ D. P F D))) field_is h)
+
+-- the dimension of a module that is named
+pub listed_dimension : (modules : Named) (name : List ℕ) (o : Option Module) → o ≡ module_of modules name → dimension_of (listed_of modules) name ≡ option_map dimension o
+listed_dimension modules name o e = lookup-map_values dimension (λ other. bytes_eq other name) modules ∙ ap (option_map dimension) (sym e)
+
+-- a module that is named is one of the datum
+pub module_held : (stage : DatumStage) (modules : Named) (name : List ℕ) (v : Module) → HasModules stage modules → module_of modules name ≡ Some v → IfSome (whole stage) (λ D. IsModule D v)
+module_held datum.Missing modules name v h e = tt
+module_held (datum.Reading lines) modules name v h e = tt
+module_held (datum.Whole D) modules name v h e =
+    subst (λ (o : Option Module). IfSome o (IsModule D)) e (All-lookup (IsModule D) (λ other. bytes_eq other name) modules (All-from_recursion (λ e. IsModule D e.1) modules h))
+
+-- what holds of the datum of a session
+pub datum_held : (P : Roots → Type 0) (stage : DatumStage) (D : Roots) → IsSomeAnd (whole stage) P → stage ≡ datum.Whole D → P D
+datum_held P stage D h stage_is = subst (λ (z : DatumStage). IsSomeAnd (whole z) P) stage_is h
 
 -- the word of a line is a word of the group
 pub form_over : (s : State) (said : Line) (w : List Letter) (F : FiniteField) (D : Roots) (c : ConstantTable) → Ready s said → said ≡ line.Form w → s.field ≡ Some F → s.datum ≡ datum.Whole D → IsWordOver (frame_of F D c) w

@@ -1,4 +1,4 @@
--- The texts of the faults of fields, of root data, of structure constants, of signs and of braid values.
+-- The texts of the faults of fields, of root data, of structure constants, of signs, of braid values and of orbits.
 -- Own.
 use Rattle.std.specs.Prelude.{ℕ, ℤ, pos, List, [], ◌∷◌, take, codes}
 use Rattle.lie_audit.specs.declared.faults.SignFault.{SignFault}
@@ -11,6 +11,8 @@ use Rattle.lie_datum.specs.declared.faults.Side.TheVariants as side
 use Rattle.lie_field.specs.declared.faults.FieldFault.{FieldFault}
 use Rattle.lie_field.specs.declared.faults.FieldFault.TheVariants as field
 use Rattle.lie_script.specs.Texts.{refusal}
+use Rattle.lie_weight.specs.declared.faults.ModuleFault.{ModuleFault}
+use Rattle.lie_weight.specs.declared.faults.ModuleFault.TheVariants as orbit
 
 -- the refusal of the `field` line with the number n; want of memory has none
 abbrev pub field_refusal : ℕ → FieldFault → List ℕ
@@ -47,3 +49,11 @@ signs_refusal n (signs.Sign i s c) = refusal n (codes "sign") (pos i ∷ s ∷ c
 -- the refusal of `load` for a braid value
 abbrev pub braid_refusal : ℕ → ℕ → ℕ → ℤ → List ℕ
 braid_refusal n i j c = refusal n (codes "braid") (pos i ∷ pos j ∷ c ∷ [])
+
+-- the refusal of `module name orbit ..`; want of memory has none
+abbrev pub orbit_refusal : ℕ → ModuleFault → List ℕ
+orbit_refusal n orbit.NoMemory = []
+orbit_refusal n (orbit.NotMinuscule r) = refusal n (codes "notminuscule") (r ∷ [])
+orbit_refusal n (orbit.Wide k) = refusal n (codes "wide") (pos k ∷ [])
+orbit_refusal n (orbit.Heavy a) = refusal n (codes "heavy") (pos a ∷ [])
+orbit_refusal n (orbit.Huge r k) = refusal n (codes "huge") (r ∷ pos k ∷ [])

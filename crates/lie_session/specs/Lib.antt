@@ -8,3 +8,4 @@ pub mod Changes
 pub mod Output
 pub mod Runs
 pub mod Steps
+pub mod Named

@@ -5,15 +5,17 @@
 --   answer     an accepted line with a reply
 --   refused    a line that is refused after `load`
 --   fatal      a refusal up to and with `load`, which ends the session
-use Rattle.std.specs.Prelude.{◌≡◌, ◌≢◌, ◌⊎◌, ℕ, ◌+◌, ◌-◌, ◌^◌, min, if◌then◌else◌, ℤ, nat_abs, true, List, [], map, Some, Ok, Err, MatchOption, MatchResult}
+use Rattle.std.specs.Prelude.{◌≡◌, ◌≢◌, ◌⊎◌, ℕ, ◌+◌, ◌-◌, ◌^◌, min, if◌then◌else◌, ℤ, nat_abs, true, List, [], ◌∷◌, ◌++◌, map, Some, Ok, Err, MatchOption, MatchResult}
 use Rattle.std.specs.Bool.{MatchBool}
+use Rattle.lie_audit.specs.OneAdjoint.{HasSignCount}
 use Rattle.lie_audit.specs.SignAnswers.{AreTestedSigns, IsSignFault}
+use Rattle.lie_audit.specs.WordMatrix.{word_matrix}
 use Rattle.lie_audit.specs.declared.faults.SignFault.{SignFault}
 use Rattle.lie_audit.specs.declared.faults.SignFault.TheVariants as sign_fault
 use Rattle.lie_const.specs.Adjoint.{IsAdjointOf}
 use Rattle.lie_const.specs.Braids.{HasBraids, IsFirstBadBraid}
 use Rattle.lie_const.specs.ConstantTables.{ConstantTable, LoadsConstants}
-use Rattle.lie_const.specs.Modules.{Module}
+use Rattle.lie_const.specs.Modules.{Module, dimension}
 use Rattle.lie_const.specs.Signs.{SignTable, eta_of}
 use Rattle.lie_const.specs.declared.faults.ConstFault.{ConstFault}
 use Rattle.lie_const.specs.declared.faults.ConstFault.TheVariants as constants_fault
@@ -27,7 +29,6 @@ use Rattle.lie_field.specs.Faults.{IsSized, IsFault}
 use Rattle.lie_field.specs.declared.faults.FieldFault.{FieldFault}
 use Rattle.lie_field.specs.declared.faults.FieldFault.TheVariants as field_fault
 use Rattle.lie_letters.specs.declared.letter.Letter.{Letter}
-use Rattle.lie_script.specs.Names.{none_listed}
 use Rattle.lie_script.specs.Reading.{reads}
 use Rattle.lie_script.specs.Texts.{line_fault, name_of, refusal}
 use Rattle.lie_script.specs.declared.faults.FaultName.TheVariants as fault
@@ -35,9 +36,14 @@ use Rattle.lie_script.specs.declared.faults.LineFault.{LineFault}
 use Rattle.lie_script.specs.declared.line.Line.{Line}
 use Rattle.lie_script.specs.declared.line.Line.TheVariants as line
 use Rattle.lie_reply.specs.Commands.{FormTextOf, ConstantTextOf, WeylTextOf}
+use Rattle.lie_reply.specs.Modules.{module_text, matrix_text}
 use Rattle.lie_reply.specs.Texts.{loaded_text, roots_text}
-use Rattle.lie_session.specs.DatumLines.{DatumLines, opened, with_root, with_coroot, is_whole, base_of}
-use Rattle.lie_session.specs.Faults.{field_refusal, datum_refusal, constants_refusal, signs_refusal, braid_refusal}
+use Rattle.lie_weight.specs.OrbitFaults.{LoadsOrbit}
+use Rattle.lie_weight.specs.declared.faults.ModuleFault.{ModuleFault}
+use Rattle.lie_weight.specs.declared.faults.ModuleFault.TheVariants as orbit_fault
+use Rattle.lie_session.specs.DatumLines.{DatumLines, opened, padded, with_root, with_coroot, is_whole, base_of}
+use Rattle.lie_session.specs.Faults.{field_refusal, datum_refusal, constants_refusal, signs_refusal, braid_refusal, orbit_refusal}
+use Rattle.lie_session.specs.Named.{module_of, listed_of}
 use Rattle.lie_session.specs.State.{State, whole, wants_of, sizes_of}
 use Rattle.lie_session.specs.declared.datum.DatumStage.{DatumStage}
 use Rattle.lie_session.specs.declared.datum.DatumStage.TheVariants as datum
@@ -94,13 +100,13 @@ WithBoth s P = MatchOption s.field ⊥ (λ F. MatchOption (whole s.datum) ⊥ (�
 -- the braid values of the signs are 1, and the group is loaded; else the line is refused for the first that is not
 abbrev pub LoadsBraids : State → ℕ → FiniteField → Roots → SignTable → Reply → State → Type 0
 LoadsBraids s n F D t reply next =
-    (HasBraids D (eta_of t) × Answers (record s { loaded = true }) (loaded_text F D) reply next)
+    (HasBraids D (eta_of t) × Answers (record s { loaded = true; signs = Some t }) (loaded_text F D) reply next)
     ⊎ ((i j : ℕ) × (c : ℤ) × IsFirstBadBraid D (eta_of t) i j c × Refuses s (braid_refusal n i j c) reply next)
 
 -- the signs of the adjoint module are as they should be, and the braid values are tested; else the line is refused for the first that is not
 abbrev pub LoadsSigns : State → ℕ → FiniteField → Roots → Reply → State → Type 0
 LoadsSigns s n F D reply next =
-    ((v : Module) × (t : SignTable) × IsAdjointOf D v × AreTestedSigns D v t × LoadsBraids s n F D t reply next)
+    ((v : Module) × (t : SignTable) × IsAdjointOf D v × AreTestedSigns D v t × HasSignCount t × LoadsBraids s n F D t reply next)
     ⊎ ((v : Module) × (why : SignFault) × IsAdjointOf D v × (why ≢ sign_fault.NoMemory) × IsSignFault D v why × Refuses s (signs_refusal n why) reply next)
 
 -- the constants of the datum are there, and the signs are tested; else the line is refused for the first constant that fails
@@ -123,6 +129,28 @@ AnswersConstant s D p q reply next = (text : List ℕ) × ConstantTextOf D p q t
 abbrev pub AnswersWeyl : State → Roots → List ℤ → Reply → State → Type 0
 AnswersWeyl s D indices reply next = (text : List ℕ) × WeylTextOf D indices text × Answers s text reply next
 
+-- the module gets the name
+abbrev pub NamesModule : State → List ℕ → Module → Reply → State → Type 0
+NamesModule s name v reply next = Answers (record s { modules = s.modules ++ (name, v) ∷ [] }) (module_text name (dimension v)) reply next
+
+-- the adjoint module gets the name
+abbrev pub NamesAdjoint : State → Roots → List ℕ → Reply → State → Type 0
+NamesAdjoint s D name reply next = (v : Module) × IsAdjointOf D v × NamesModule s name v reply next
+
+-- the module of the orbit of the weight gets the name; where there is none, the line is refused for the first fault
+abbrev pub NamesOrbit : State → ℕ → Roots → SignTable → List ℕ → List ℤ → Reply → State → Type 0
+NamesOrbit s n D t name w reply next =
+    ((v : Module) × LoadsOrbit D (eta_of t) (padded w) (Ok v) × NamesModule s name v reply next)
+    ⊎ ((why : ModuleFault) × (why ≢ orbit_fault.NoMemory) × LoadsOrbit D (eta_of t) (padded w) (Err why) × Refuses s (orbit_refusal n why) reply next)
+
+-- with the signs of the loaded group
+abbrev pub WithSigns : State → (SignTable → Type 0) → Type 0
+WithSigns s P = MatchOption s.signs ⊥ P
+
+-- the answer has the rows of the matrix of the word on the module of the name
+abbrev pub AnswersMatrix : State → FiniteField → List ℕ → List Letter → Reply → State → Type 0
+AnswersMatrix s F name w reply next = MatchOption (module_of s.modules name) ⊥ (λ v. Answers s (matrix_text (word_matrix F v w)) reply next)
+
 -- ---- any line
 
 -- what is done with a line that was read
@@ -137,6 +165,9 @@ Does s n (line.Form w) reply next = WithBoth s (λ F D. AnswersForm s F D w repl
 Does s n line.Roots reply next = WithBoth s (λ F D. Answers s (roots_text D) reply next)
 Does s n (line.Constant p q) reply next = WithBoth s (λ F D. AnswersConstant s D p q reply next)
 Does s n (line.Weyl indices) reply next = WithBoth s (λ F D. AnswersWeyl s D indices reply next)
+Does s n (line.Adjoint name) reply next = WithBoth s (λ F D. NamesAdjoint s D name reply next)
+Does s n (line.Orbit name w) reply next = WithBoth s (λ F D. WithSigns s (λ t. NamesOrbit s n D t name w reply next))
+Does s n (line.Matrix name w) reply next = WithBoth s (λ F D. AnswersMatrix s F name w reply next)
 
 -- the refusal of a line
 abbrev pub line_refusal : ℕ → LineFault → List ℕ
@@ -145,7 +176,7 @@ line_refusal n why = refusal n (name_of why.name) why.numbers
 -- in the state, this is a reply to the line of the number, and this the state after it
 abbrev pub Replies : State → ℕ → List ℕ → Reply → State → Type 0
 Replies s n bytes reply next =
-    MatchResult (reads (wants_of s) (sizes_of s) none_listed bytes)
+    MatchResult (reads (wants_of s) (sizes_of s) (listed_of s.modules) bytes)
     (λ said. Does s n said reply next) (λ why. Refuses s (line_refusal n (line_fault why)) reply next)
 
 -- the reply of the end, after n lines: before `load` it is a refusal

@@ -1,6 +1,7 @@
 -- What a session holds between lines.
 -- Own.
-use Rattle.std.specs.Prelude.{ℕ, Bool, true, false, if◌then◌else◌, nat_eq, length, Option, Some, None}
+use Rattle.std.specs.Prelude.{ℕ, Bool, true, false, if◌then◌else◌, nat_eq, [], length, Option, Some, None}
+use Rattle.lie_const.specs.Signs.{SignTable}
 use Rattle.lie_datum.specs.RootDatum.{rank}
 use Rattle.lie_datum.specs.RootList.{Roots}
 use Rattle.lie_field.specs.FiniteField.{FiniteField}
@@ -9,6 +10,7 @@ use Rattle.lie_script.specs.declared.sizes.Sizes.{Sizes}
 use Rattle.lie_script.specs.declared.sizes.Wants.{Wants}
 use Rattle.lie_script.specs.declared.sizes.Wants.TheVariants as wants
 use Rattle.lie_session.specs.DatumLines.{datum_wants}
+use Rattle.lie_session.specs.Named.{Named}
 use Rattle.lie_session.specs.declared.datum.DatumStage.{DatumStage}
 use Rattle.lie_session.specs.declared.datum.DatumStage.TheVariants as datum
 use Rattle.lie_session.specs.declared.status.Status.{Status}
@@ -21,6 +23,10 @@ pub record State : Type 0 where
   pub datum : DatumStage
   -- whether a group is loaded
   pub loaded : Bool
+  -- the signs of the Weyl representatives, once a group is loaded
+  pub signs : Option SignTable
+  -- the named modules
+  pub modules : Named
   -- the replies of kind `Refused`, at most the last value of u64
   pub refusals : ℕ
   -- whether no line is replied to any more
@@ -28,7 +34,7 @@ pub record State : Type 0 where
 
 -- a session that has read nothing
 abbrev pub fresh : State
-fresh = record { field = None; datum = datum.Missing; loaded = false; refusals = 0; ended = false }
+fresh = record { field = None; datum = datum.Missing; loaded = false; signs = None; modules = []; refusals = 0; ended = false }
 
 -- the datum, once all its lines were accepted
 abbrev pub whole : DatumStage → Option Roots

@@ -32,7 +32,7 @@ impl Model for DatumLines {
 }
 
 /// The vector with zeros past the dimension.
-fn padded(v: &[i128]) -> Vector
+pub(crate) fn padded(v: &[i128]) -> Vector
     requires { length v.now ≤ 8 }
     ensures { result ≡ with_zeros v.now }
 {

@@ -12,6 +12,7 @@ mod cutting;
 mod datum;
 mod input;
 mod mode;
+mod modules;
 mod output;
 mod program;
 mod reply;

@@ -1,25 +1,36 @@
 //! A session over the lines of a script.
-ghost use Rattle.std.specs.Prelude.{◌≡◌, ◌≢◌, ◌≤◌, true, false, [], ◌∷◌, Some, Ok, pos, nat_abs, map, length, All, IfOk, OnErr};
-ghost use Rattle.std.specs.Option.{IsSome, IsSomeAnd};
+ghost use Rattle.std.specs.Prelude.{◌≡◌, ◌≢◌, ◌≤◌, true, false, [], ◌∷◌, Some, Ok, pos, nat_abs, map, length, All, IfOk, OnErr, MatchOption};
+ghost use Rattle.std.specs.Option.{IfSome, IsSome, IsSomeAnd};
 ghost use Rattle.lie_const.specs.ConstantTables.{LoadsConstants};
+ghost use Rattle.lie_const.specs.Modules.{IsModule};
 ghost use Rattle.lie_const.specs.Signs.{IsSignTable};
+ghost use Rattle.lie_audit.specs.WordMatrix.{word_matrix as the_word_matrix, IsWordFor};
+ghost use Rattle.lie_datum.specs.RootDatum.{IsWithin};
+ghost use Rattle.lie_datum.specs.RootList.{IsLoaded};
+ghost use Rattle.lie_reply.specs.Modules.{matrix_text as text_of_matrix};
+ghost use Rattle.lie_session.specs.DatumLines.{padded as with_zeros};
+ghost use Rattle.lie_session.specs.Named.{module_of};
 ghost use Rattle.lie_script.specs.Numbers.{is_within};
 ghost use Rattle.lie_script.specs.Texts.{refusal as refusal_text};
 ghost use Rattle.lie_session.specs.Changes.{Changes};
-ghost use Rattle.lie_session.specs.Faults.{field_refusal, datum_refusal, constants_refusal, signs_refusal, braid_refusal};
-ghost use Rattle.lie_session.specs.Replies.{Replies, RepliesAtEnd, Refuses, KeepsField, KeepsDatum, ReadsDatum, LoadsGroup, LoadsSigns, LoadsBraids, WithBoth, Does};
+ghost use Rattle.lie_session.specs.Faults.{field_refusal, datum_refusal, constants_refusal, signs_refusal, braid_refusal, orbit_refusal};
+ghost use Rattle.lie_session.specs.Replies.{Replies, RepliesAtEnd, Refuses, KeepsField, KeepsDatum, ReadsDatum, LoadsGroup, LoadsSigns, LoadsBraids, NamesModule, NamesAdjoint, NamesOrbit, WithBoth, WithSigns, Does};
 ghost use Rattle.lie_session.specs.State.{fresh, whole, wants_of, sizes_of};
 ghost use Rattle.lie_session.specs.Ready.{Ready};
 
-use crate::datum::{DatumLines, DatumStage};
+use crate::datum::{DatumLines, DatumStage, padded};
+use crate::modules::Modules;
 use crate::reply::{Kind, Reply};
-use lie_audit::{BraidFault, SignFault, braid, signs};
+use lie_audit::{BraidFault, SignFault, braid, signs, word_matrix};
 use lie_const::{ConstFault, Constants, Signs};
 use lie_datum::{Datum, DatumFault, RootId, Side};
 use lie_field::{Field, FieldFault};
-use lie_reply::{constant_text, form_text, loaded_text, roots_text, weyl_text};
-use lie_script::{FaultName, Line, NoNames, Numbers, Sizes, Text, Wants, read_line, refusal};
-use lie_weight::Module;
+use lie_letters::Word;
+use lie_reply::{
+    constant_text, form_text, loaded_text, matrix_text, module_text, roots_text, weyl_text,
+};
+use lie_script::{FaultName, Line, Numbers, Sizes, Text, Wants, read_line, refusal};
+use lie_weight::{Module, ModuleFault};
 use std::alloc::{AllocError, Global};
 use std::marker::Model;
 
@@ -71,26 +82,30 @@ pub struct Session {
     /// Those of the datum, once a group is loaded.
     constants: Option<Constants>,
     loaded: bool,
+    /// Those of the group, once it is loaded.
+    signs: Option<Signs>,
+    modules: Modules,
     refusals: u64,
     ended: bool,
 }
 
 impl Model for Session {
-    ghost use Rattle.std.specs.Prelude.{◌≡◌, true};
+    ghost use Rattle.std.specs.Prelude.{◌≡◌, true, false, []};
     ghost use Rattle.std.specs.Option.{IsSome};
     ghost use Rattle.lie_session.specs.State.{State, whole};
-    ghost use Rattle.lie_session.specs.Ready.{HasConstants};
+    ghost use Rattle.lie_session.specs.Ready.{HasConstants, HasSigns, HasModules};
 
     ghost Value = { State };
 
-    ghost view = { λ s. record { field = s.field; datum = s.datum; loaded = s.loaded; refusals = s.refusals; ended = s.ended } };
+    ghost view = { λ s. record { field = s.field; datum = s.datum; loaded = s.loaded; signs = s.signs; modules = s.modules; refusals = s.refusals; ended = s.ended } };
 
-    ghost invariant = { λ s. (s.loaded ≡ true → IsSome s.field × IsSome (whole s.datum)) × (s.loaded ≡ true → HasConstants s.datum s.constants) };
+    ghost invariant = { λ s. (s.loaded ≡ true → IsSome s.field × IsSome (whole s.datum)) × (s.loaded ≡ true → HasConstants s.datum s.constants)
+        × (s.loaded ≡ true → HasSigns s.datum s.signs) × (s.loaded ≡ true → HasModules s.datum s.modules) × (s.loaded ≡ false → s.modules ≡ []) };
 }
 
 impl Session {
     /// A session that has read nothing. It takes no memory.
-    pub fn new(_alloc: Global) -> Session
+    pub fn new(alloc: Global) -> Session
         ensures { result ≡ fresh }
     {
         Session {
@@ -98,6 +113,8 @@ impl Session {
             datum: DatumStage::Missing,
             constants: None,
             loaded: false,
+            signs: None,
+            modules: Modules::new(alloc),
             refusals: 0,
             ended: false,
         }
@@ -182,6 +199,31 @@ impl Session {
     {
         match &self.constants {
             Some(constants) => constants,
+            None => unreachable!(),
+        }
+    }
+
+    /// The signs of a loaded group.
+    fn signs(&self) -> &Signs
+        requires { self.now.loaded ≡ true }
+        ensures is { self.now.signs ≡ Some result.now }
+        ensures datum { IsSomeAnd (whole self.now.datum) (λ D. IsSignTable D result.now) }
+    {
+        match &self.signs {
+            Some(signs) => signs,
+            None => unreachable!(),
+        }
+    }
+
+    /// The module of a name.
+    fn module(&self, name: &[u8]) -> &Module
+        requires loaded { self.now.loaded ≡ true }
+        requires known { IsSome (module_of self.now.modules name.now) }
+        ensures is { module_of self.now.modules name.now ≡ Some result.now }
+        ensures datum { IfSome (whole self.now.datum) (λ D. IsModule D result.now) }
+    {
+        match self.modules.find(name) {
+            Some(module) => module,
             None => unreachable!(),
         }
     }
@@ -337,6 +379,32 @@ impl Session {
         self.refuse(alloc, number, b"braid", &[*i as i128, *j as i128, *value])
     }
 
+    /// Refuses a module for a fault of the orbit.
+    fn refuse_orbit(
+        &mut self,
+        alloc: Global,
+        number: u64,
+        fault: &ModuleFault,
+    ) -> Result<Reply, AllocError>
+        ensures refuses { IfOk result (λ reply. Refuses self.old (orbit_refusal number fault.now) reply self.new) }
+        ensures named { IfOk result (λ reply. fault.now ≢ ModuleFault.NoMemory) }
+    {
+        match fault {
+            ModuleFault::NoMemory => Err(AllocError),
+            ModuleFault::NotMinuscule(r) => {
+                self.refuse(alloc, number, b"notminuscule", &[r.number() as i128])
+            }
+            ModuleFault::Wide(n) => self.refuse(alloc, number, b"wide", &[*n as i128]),
+            ModuleFault::Heavy(a) => self.refuse(alloc, number, b"heavy", &[*a as i128]),
+            ModuleFault::Huge(r, k) => self.refuse(
+                alloc,
+                number,
+                b"huge",
+                &[r.number() as i128, *k as i128],
+            ),
+        }
+    }
+
     /// Keeps the field of the numbers of a line.
     fn keep_field(
         &mut self,
@@ -426,7 +494,7 @@ impl Session {
         let (_field, datum) = self.both();
         let adjoint = Module::adjoint(alloc, datum, &constants)?;
         match signs(alloc, datum, &adjoint) {
-            Ok(signs) => self.load_braids(alloc, number, constants, &signs),
+            Ok(signs) => self.load_braids(alloc, number, constants, signs),
             Err(fault) => self.refuse_signs(alloc, number, &fault),
         }
     }
@@ -437,24 +505,90 @@ impl Session {
         alloc: Global,
         number: u64,
         constants: Constants,
-        signs: &Signs,
+        signs: Signs,
     ) -> Result<Reply, AllocError>
         requires early { self.old.loaded ≡ false }
         requires field { IsSome self.old.field }
         requires constants { IsSomeAnd (whole self.old.datum) (λ D. LoadsConstants D (Ok constants)) }
-        requires signs { IsSomeAnd (whole self.old.datum) (λ D. IsSignTable D signs.now) }
-        ensures { IfOk result (λ reply. WithBoth self.old (λ F D. LoadsBraids self.old number F D signs.now reply self.new)) }
+        requires signs { IsSomeAnd (whole self.old.datum) (λ D. IsSignTable D signs) }
+        ensures { IfOk result (λ reply. WithBoth self.old (λ F D. LoadsBraids self.old number F D signs reply self.new)) }
     {
         let (field, datum) = self.both();
-        match braid(datum, signs) {
+        match braid(datum, &signs) {
             Ok(()) => {
                 let text = loaded_text(alloc, field, datum)?;
                 self.constants = Some(constants);
+                self.signs = Some(signs);
                 self.loaded = true;
                 Ok(answer(text))
             }
             Err(fault) => self.refuse_braid(alloc, number, &fault),
         }
+    }
+
+    /// Gives a module a name.
+    fn name_module(
+        &mut self,
+        alloc: Global,
+        name: Text,
+        module: Module,
+    ) -> Result<Reply, AllocError>
+        requires loaded { self.old.loaded ≡ true }
+        requires datum { IsSomeAnd (whole self.old.datum) (λ D. IsModule D «module») }
+        ensures { IfOk result (λ reply. NamesModule self.old name «module» reply self.new) }
+    {
+        let text = module_text(alloc, name.bytes(), module.dim())?;
+        self.modules.push(name, module)?;
+        Ok(answer(text))
+    }
+
+    /// Gives the adjoint module a name.
+    fn name_adjoint(&mut self, alloc: Global, name: Text) -> Result<Reply, AllocError>
+        requires loaded { self.old.loaded ≡ true }
+        requires field { IsSome self.old.field }
+        requires datum { IsSome (whole self.old.datum) }
+        ensures { IfOk result (λ reply. WithBoth self.old (λ F D. NamesAdjoint self.old D name reply self.new)) }
+    {
+        let (_field, datum) = self.both();
+        let module = Module::adjoint(alloc, datum, self.constants())?;
+        self.name_module(alloc, name, module)
+    }
+
+    /// Gives the module of the orbit of a weight a name.
+    fn name_orbit(
+        &mut self,
+        alloc: Global,
+        number: u64,
+        name: Text,
+        v: &Numbers,
+    ) -> Result<Reply, AllocError>
+        requires loaded { self.old.loaded ≡ true }
+        requires field { IsSome self.old.field }
+        requires datum { IsSome (whole self.old.datum) }
+        requires long { IsSomeAnd (whole self.old.datum) (λ D. length v.now ≡ D.base.dim) }
+        requires small { IsWithin 100 (with_zeros v.now) }
+        ensures { IfOk result (λ reply. WithBoth self.old (λ F D. WithSigns self.old (λ t. NamesOrbit self.old number D t name v.now reply self.new))) }
+    {
+        let (_field, datum) = self.both();
+        datum.loaded();
+        let weight = padded(v.list());
+        match Module::orbit(alloc, datum, self.signs(), &weight) {
+            Ok(module) => self.name_module(alloc, name, module),
+            Err(fault) => self.refuse_orbit(alloc, number, &fault),
+        }
+    }
+
+    /// The matrix of a word on the module of a name.
+    fn matrix(&self, alloc: Global, name: &[u8], w: &Word) -> Result<Text, AllocError>
+        requires loaded { self.now.loaded ≡ true }
+        requires over { IsSomeAnd self.now.field (λ F. IsSomeAnd (whole self.now.datum) (λ D. IsLoaded D → IsWordFor F D w.now)) }
+        requires known { IsSome (module_of self.now.modules name.now) }
+        ensures { IfOk result (λ text. WithBoth self.now (λ F D. MatchOption (module_of self.now.modules name.now) ⊥ (λ v. text ≡ text_of_matrix (the_word_matrix F v w.now)))) }
+    {
+        let (field, datum) = self.both();
+        datum.loaded();
+        let matrix = word_matrix(alloc, field, datum, self.module(name), w)?;
+        matrix_text(alloc, &matrix)
     }
 
     /// Does what a line says.
@@ -495,6 +629,12 @@ impl Session {
                 let (_field, datum) = self.both();
                 Ok(answer(weyl_text(alloc, datum, &indices)?))
             }
+            Line::Adjoint { name } => self.name_adjoint(alloc, name),
+            Line::Orbit { name, v } => self.name_orbit(alloc, number, name, &v),
+            Line::Matrix { name, w } => {
+                let text = self.matrix(alloc, name.bytes(), &w)?;
+                Ok(answer(text))
+            }
         }
     }
 
@@ -508,7 +648,7 @@ impl Session {
             line,
             self.wants(),
             &self.sizes(),
-            &NoNames,
+            &self.modules,
             self.field.as_ref(),
             self.datum.whole(),
         )?;

@@ -1,0 +1,200 @@
+//! The lines that name modules.
+ghost use Rattle.std.specs.Prelude.{◌≡◌, ◌≤◌, ◌+◌, length, IfOk};
+ghost use Rattle.std.specs.List.{list_all};
+ghost use Rattle.lie_script.specs.Checks.{Gives};
+ghost use Rattle.lie_script.specs.LineFields.{span, spans};
+ghost use Rattle.lie_script.specs.Modules.{is_lower as lower_letter, is_name_byte as name_byte, is_name as name_spelled, kind_of as kind_read, new_name as new_name_read, kind_line as kind_line_read, module_line as module_line_read, matrix_line as matrix_line_read};
+ghost use Rattle.lie_script.specs.Setting.{HasField, HasDatum};
+
+use crate::allowed::Allowed;
+use crate::faults::{Fault, FaultName, Stop};
+use crate::fields::LineField;
+use crate::kept::{Numbers, Text};
+use crate::kinds::miscounted;
+use crate::letter_set::LetterSet;
+use crate::letters::word;
+use crate::line::Line;
+use crate::module_kind::ModuleKind;
+use crate::names::Names;
+use crate::numbers::numbers;
+use crate::sizes::Sizes;
+use lie_datum::Datum;
+use lie_field::Field;
+use std::alloc::{AllocError, Global};
+
+/// The most modules that have names.
+const MOST: usize = 16;
+
+fn is_lower(b: u8) -> bool
+    ensures { result ≡ lower_letter b }
+{
+    b >= b'a' && b <= b'z'
+}
+
+fn is_name_byte(b: u8) -> bool
+    ensures { result ≡ name_byte b }
+{
+    is_lower(b) || b.is_ascii_digit() || b == b'_'
+}
+
+fn are_name_bytes(bytes: &[u8]) -> bool
+    ensures { result ≡ list_all name_byte bytes.now }
+{
+    bytes.iter().all(|b| is_name_byte(*b))
+}
+
+/// Whether the bytes are a name of a module.
+fn is_name(bytes: &[u8]) -> bool
+    ensures { result ≡ name_spelled bytes.now }
+{
+    match bytes {
+        [first, rest @ ..] => is_lower(*first) && are_name_bytes(rest) && rest.len() <= 15,
+        [] => false,
+    }
+}
+
+/// The kind that the bytes spell.
+fn kind_of(bytes: &[u8]) -> Option<ModuleKind>
+    ensures { result ≡ kind_read bytes.now }
+{
+    if bytes == b"adjoint".as_slice() {
+        Some(ModuleKind::Adjoint)
+    } else if bytes == b"orbit".as_slice() {
+        Some(ModuleKind::Orbit)
+    } else {
+        None
+    }
+}
+
+/// Tests that no module has the name, and that one more may be there.
+#[tactic(auto, unfolding(crate::specs::Modules::new_name))]
+fn new_name<N: Names>(names: &N, name: &LineField<'_>) -> Result<(), Fault>
+    ensures { result ≡ new_name_read (N.listed names.now) (span name.now) }
+{
+    if names.dim_of(name.bytes).is_some() {
+        return Err(Fault::At(FaultName::Taken, name.column));
+    }
+    if names.count() >= MOST {
+        return Err(Fault::Bare(FaultName::Full));
+    }
+    Ok(())
+}
+
+/// The bytes of a name.
+fn text_of(alloc: Global, bytes: &[u8]) -> Result<Text, AllocError>
+    ensures { IfOk result (λ text. text ≡ bytes.now) }
+{
+    Ok(Text::of(Vec::from_slice(alloc, bytes)?))
+}
+
+/// `adjoint` and no more.
+#[tactic(auto, unfolding(crate::specs::Modules::kind_line))]
+fn adjoint_line<N: Names>(
+    alloc: Global,
+    sizes: &Sizes,
+    names: &N,
+    name: &LineField<'_>,
+    fields: &[LineField<'_>],
+) -> Result<Line, Stop>
+    requires { length fields.now ≤ 65536 }
+    ensures { Gives (λ line. line) result (kind_line_read sizes.now (N.listed names.now) (span name.now) ModuleKind.Adjoint (spans fields.now)) }
+{
+    if !fields.is_empty() {
+        return Err(Stop::Faulty(miscounted(fields.len() + 2)));
+    }
+    new_name(names, name)?;
+    Ok(Line::Adjoint {
+        name: text_of(alloc, name.bytes)?,
+    })
+}
+
+/// `orbit` and a weight.
+#[tactic(auto, unfolding(crate::specs::Modules::kind_line))]
+fn orbit_line<N: Names>(
+    alloc: Global,
+    sizes: &Sizes,
+    names: &N,
+    name: &LineField<'_>,
+    fields: &[LineField<'_>],
+) -> Result<Line, Stop>
+    requires { length fields.now ≤ 65536 }
+    ensures { Gives (λ line. line) result (kind_line_read sizes.now (N.listed names.now) (span name.now) ModuleKind.Orbit (spans fields.now)) }
+{
+    if fields.len() != sizes.d {
+        return Err(Stop::Faulty(miscounted(fields.len() + 2)));
+    }
+    let v = numbers(alloc, Allowed::Within(-100, 100), fields)?;
+    new_name(names, name)?;
+    Ok(Line::Orbit {
+        name: text_of(alloc, name.bytes)?,
+        v: Numbers::of(v),
+    })
+}
+
+/// The fields behind a name and a kind.
+fn kind_line<N: Names>(
+    alloc: Global,
+    sizes: &Sizes,
+    names: &N,
+    name: &LineField<'_>,
+    kind: ModuleKind,
+    fields: &[LineField<'_>],
+) -> Result<Line, Stop>
+    requires { length fields.now ≤ 65536 }
+    ensures { Gives (λ line. line) result (kind_line_read sizes.now (N.listed names.now) (span name.now) kind (spans fields.now)) }
+{
+    match kind {
+        ModuleKind::Adjoint => adjoint_line(alloc, sizes, names, name, fields),
+        ModuleKind::Orbit => orbit_line(alloc, sizes, names, name, fields),
+    }
+}
+
+/// `module`: a name and a kind, then the fields of the kind.
+#[tactic(auto, unfolding(crate::specs::Modules::module_line))]
+pub(crate) fn module_line<N: Names>(
+    alloc: Global,
+    sizes: &Sizes,
+    names: &N,
+    fields: &[LineField<'_>],
+) -> Result<Line, Stop>
+    requires { length fields.now ≤ 65536 }
+    ensures { Gives (λ line. line) result (module_line_read sizes.now (N.listed names.now) (spans fields.now)) }
+{
+    let [name, kind, more @ ..] = fields else {
+        return Err(Stop::Faulty(miscounted(fields.len())));
+    };
+    if !is_name(name.bytes) {
+        return Err(Stop::Faulty(Fault::At(FaultName::Name, name.column)));
+    }
+    let Some(kind) = kind_of(kind.bytes) else {
+        return Err(Stop::Faulty(Fault::At(FaultName::Kind, kind.column)));
+    };
+    kind_line(alloc, sizes, names, name, kind, more)
+}
+
+/// `matrix`: the name of a module, then a word.
+#[tactic(auto, unfolding(crate::specs::Modules::matrix_line))]
+pub(crate) fn matrix_line<N: Names>(
+    alloc: Global,
+    sizes: &Sizes,
+    names: &N,
+    field: &Field,
+    datum: &Datum,
+    fields: &[LineField<'_>],
+) -> Result<Line, Stop>
+    requires field { HasField sizes.now field.now }
+    requires datum { HasDatum sizes.now datum.now }
+    ensures { Gives (λ line. line) result (matrix_line_read sizes.now (N.listed names.now) (spans fields.now)) }
+{
+    let [name, _first, ..] = fields else {
+        return Err(Stop::Faulty(miscounted(fields.len())));
+    };
+    if names.dim_of(name.bytes).is_none() {
+        return Err(Stop::Faulty(Fault::At(FaultName::Unknown, name.column)));
+    }
+    let w = word(alloc, LetterSet::All, sizes, field, datum, &fields[1..])?;
+    Ok(Line::Matrix {
+        name: text_of(alloc, name.bytes)?,
+        w,
+    })
+}
