@@ -16,6 +16,9 @@ pub const PRODUCT: &str = "field 5 1 0 2\ndatum 1 0\nload\nform h(2) h(3)\n";
 /// SL2 over the field of five elements, up to `load`.
 pub const SL2: &str = "field 5 1 0 2\ndatum 1 1\nroot 2\ncoroot 1\nload\n";
 
+/// GL2 over the field of three elements, up to `load`.
+pub const GL2: &str = "field 3 1 0 2\ndatum 2 1\nroot 1 -1\ncoroot 1 -1\nload\n";
+
 /// SL3 over the field of three elements, up to `load`.
 pub const SL3: &str =
     "field 3 1 0 2\ndatum 2 2\nroot 2 -1\nroot -1 2\ncoroot 1 0\ncoroot 0 1\nload\n";
@@ -31,3 +34,7 @@ pub const B2_OVER_TWO: &str =
 /// The group of type G_2 over the field of five elements, up to `load`.
 pub const G2: &str =
     "field 5 1 0 2\ndatum 2 2\nroot 2 -1\nroot -3 2\ncoroot 1 0\ncoroot 0 1\nload\n";
+
+/// Sixteen lines that name the adjoint module.
+pub const SIXTEEN_MODULES: &str =
+    "module a adjoint\nmodule b adjoint\nmodule c adjoint\nmodule d adjoint\nmodule e adjoint\nmodule f adjoint\nmodule g adjoint\nmodule h adjoint\nmodule i adjoint\nmodule j adjoint\nmodule k adjoint\nmodule l adjoint\nmodule m adjoint\nmodule n adjoint\nmodule o adjoint\nmodule p adjoint\n";

@@ -1,5 +1,5 @@
 //! The program on scripts in memory.
-use crate::{B2, B2_OVER_TWO, G2, PRODUCT, SL2, SL3, TORUS};
+use crate::{B2, B2_OVER_TWO, G2, GL2, PRODUCT, SIXTEEN_MODULES, SL2, SL3, TORUS};
 use lie_kit::{MemSink, MemSource};
 use lie_script::Text;
 use lie_session::{Kind, Session, Status, lie};
@@ -361,6 +361,90 @@ fn refused_commands(rt: HostRuntime) -> Result<(), Fail> {
             "at {line}"
         );
     }
+    Ok(())
+}
+
+#[test]
+fn matrices(rt: HostRuntime) -> Result<(), Fail> {
+    // the script up to `load`, lines after it, the output
+    let cases = [
+        (
+            SL2,
+            "module nat orbit 1\nmatrix nat n1\nmatrix nat n1'\nmatrix nat x-1(1)",
+            "loaded 5 1 2 -\nmodule nat 2\n0 1\n4 0\n0 4\n1 0\n1 0\n1 1\n",
+        ),
+        (
+            SL2,
+            "module adj adjoint\nmatrix adj x1(1)",
+            "loaded 5 1 2 -\nmodule adj 3\n1 3 4\n0 1 1\n0 0 1\n",
+        ),
+        (
+            SL3,
+            "module nat orbit 1 0\nmatrix nat x1(1) x2(1) x3(2)\nmatrix nat x2(1) x1(1)",
+            "loaded 3 2 6 -\nmodule nat 3\n1 1 0\n0 1 1\n0 0 1\n1 1 0\n0 1 1\n0 0 1\n",
+        ),
+        (
+            GL2,
+            "module nat orbit 1 0\nmatrix nat x1(1) h(2,2) n1 x1(2)",
+            "loaded 3 2 2 -\nmodule nat 2\n1 1\n1 2\n",
+        ),
+        (
+            TORUS,
+            "module a adjoint\nmatrix a 1",
+            "loaded 5 1 0 1\nmodule a 0\n",
+        ),
+    ];
+    for (front, lines, output) in cases {
+        assert!(rt;
+            runs(rt.alloc(), PLAIN, front, lines, output, Status::Done)?,
+            "at {lines}"
+        );
+    }
+    Ok(())
+}
+
+#[test]
+fn refused_modules(rt: HostRuntime) -> Result<(), Fail> {
+    // lines from the sixth on after SL2, and what they give after the reply to `load`
+    let cases = [
+        (
+            "module v orbit 2\nmatrix v 1\nmodule v orbit 1\nmatrix v 1",
+            "loaded 5 1 2 -\nrefused 6 notminuscule 1\nrefused 7 unknown 8\nmodule v 2\n1 0\n0 1\n",
+        ),
+        (
+            "module v orbit 1\nmodule v adjoint\nmatrix v n1",
+            "loaded 5 1 2 -\nmodule v 2\nrefused 7 taken 8\n0 1\n4 0\n",
+        ),
+        (
+            "module V adjoint\nmodule a2345678901234567 adjoint\nmodule a_23456789012345 adjoint",
+            "loaded 5 1 2 -\nrefused 6 name 8\nrefused 7 name 8\nmodule a_23456789012345 3\n",
+        ),
+        (
+            "module v\nmodule v adjoint 1\nmodule v orbit\nmodule v orbit x\nmodule v orbit 101\nmodule v lattice 1",
+            "loaded 5 1 2 -\nrefused 6 fields 1\nrefused 7 fields 3\nrefused 8 fields 2\nrefused 9 number 16\nrefused 10 range 16\nrefused 11 kind 10\n",
+        ),
+        (
+            "matrix v\nmodule v orbit 1\nmatrix v x2(1)\nmatrix v n2\nmatrix v x1(5)\nmatrix v h(0)\nmatrix v y1",
+            "loaded 5 1 2 -\nrefused 6 fields 1\nmodule v 2\nrefused 8 root 10\nrefused 9 simple 10\nrefused 10 value 10\nrefused 11 torus 10\nrefused 12 letter 10\n",
+        ),
+    ];
+    for (lines, output) in cases {
+        assert!(rt;
+            runs(rt.alloc(), PLAIN, SL2, lines, output, Status::Refused)?,
+            "at {lines}"
+        );
+    }
+    Ok(())
+}
+
+#[test]
+fn a_seventeenth_module(rt: HostRuntime) -> Result<(), Fail> {
+    let mut front = String::from_str(rt.alloc(), SL2)?;
+    front.push_str(SIXTEEN_MODULES)?;
+    let output =
+        "loaded 5 1 2 -\nmodule a 3\nmodule b 3\nmodule c 3\nmodule d 3\nmodule e 3\nmodule f 3\nmodule g 3\nmodule h 3\nmodule i 3\nmodule j 3\nmodule k 3\nmodule l 3\nmodule m 3\nmodule n 3\nmodule o 3\nmodule p 3\nrefused 22 full\nrefused 23 taken 8\nrefused 24 unknown 8\n1 0 0\n0 1 0\n0 0 1\n";
+    let lines = "module q adjoint\nmodule a adjoint\nmatrix q 1\nmatrix p 1";
+    assert!(rt; runs(rt.alloc(), PLAIN, &front, lines, output, Status::Refused)?);
     Ok(())
 }
 
