@@ -7,6 +7,7 @@ pub mod OneLoading
 pub mod ChangeLemmas
 pub mod OneOutputLemmas
 pub mod StatusLemmas
+pub mod LoadedLemmas
 pub mod ProgressLemmas
 pub mod CauseLemmas
 pub mod WorkedExamples

@@ -201,24 +201,29 @@ status-end mode lines front last n reply over h live r =
           ap (λ b. cond b LoadRefused (cond (has is_refused (front ++ reply ∷ [])) Refused Done)) fatal
           ∙ sym (ap (λ b. cond b (cond (nat_eq last.refusals 0) Done Refused) LoadRefused) is)
 
--- a script keeps the session sound
-sound_to : (mode : Mode) (s : State) (n : ℕ) (lines : List (List ℕ)) (replies : List Reply) (last : State) → IsSoundState s → RepliesTo mode s n lines replies last → IsSoundState last
-sound_to mode s n [] replies last sound h = subst IsSoundState (sym h.1) sound
-sound_to mode s n (line ∷ lines) replies last sound h = by_rest (rests mode s) h (λ next others there on. sound_to mode next (n + 1) lines others last there on) where
+-- what each reply keeps a script keeps
+pub kept_to : (P : State → Type 0) → ((s : State) (n : ℕ) (bytes : List ℕ) (reply : Reply) (next : State) → P s → Replies s n bytes reply next → P next)
+    → (mode : Mode) (s : State) (n : ℕ) (lines : List (List ℕ)) (replies : List Reply) (last : State) → P s → RepliesTo mode s n lines replies last → P last
+kept_to P kept mode s n [] replies last there h = subst P (sym h.1) there
+kept_to P kept mode s n (line ∷ lines) replies last there h = by_rest (rests mode s) h (λ next others there on. kept_to P kept mode next (n + 1) lines others last there on) where
   by_rest : (rest : Bool) → MatchBool rest ((replies ≡ []) × (last ≡ s))
       ((reply : Reply) × (next : State) × (others : List Reply) × Replies s (n + 1) line reply next × (replies ≡ reply ∷ others) × RepliesTo mode next (n + 1) lines others last)
-      → ((next : State) (others : List Reply) → IsSoundState next → RepliesTo mode next (n + 1) lines others last → IsSoundState last) → IsSoundState last
-  by_rest true h on = subst IsSoundState (sym h.1) sound
-  by_rest false h on = on h.1 h.2 (sound_from s (n + 1) line h.0 h.1 sound h.3) h.5
+      → ((next : State) (others : List Reply) → P next → RepliesTo mode next (n + 1) lines others last → P last) → P last
+  by_rest true h on = subst P (sym h.1) there
+  by_rest false h on = on h.1 h.2 (kept s (n + 1) line h.0 h.1 there h.3) h.5
+
+-- a script keeps the session sound
+sound_to : (mode : Mode) (lines : List (List ℕ)) (replies : List Reply) (s : State) → RepliesTo mode fresh 0 lines replies s → IsSoundState s
+sound_to mode lines replies s h = kept_to IsSoundState sound_from mode fresh 0 lines replies s (record { sized = tt; loaded = tt }) h
 
 -- each field that a script brings is within the limits
 pub fields_are_sized : (mode : Mode) (lines : List (List ℕ)) (replies : List Reply) (s : State) (F : FiniteField) → RepliesTo mode fresh 0 lines replies s → s.field ≡ Some F → IsSized F.given
 fields_are_sized mode lines replies s F h is =
-    subst (λ o. IfSome o (λ (F : FiniteField). IsSized F.given)) is (sound_to mode fresh 0 lines replies s (record { sized = tt; loaded = tt }) h).sized
+    subst (λ o. IfSome o (λ (F : FiniteField). IsSized F.given)) is (sound_to mode lines replies s h).sized
 
 -- each datum that a script brings meets the axioms
 pub data_are_loaded : (mode : Mode) (lines : List (List ℕ)) (replies : List Reply) (s : State) (D : Roots) → RepliesTo mode fresh 0 lines replies s → whole s.datum ≡ Some D → IsLoaded D
-data_are_loaded mode lines replies s D h is = subst (λ o. IfSome o IsLoaded) is (sound_to mode fresh 0 lines replies s (record { sized = tt; loaded = tt }) h).loaded
+data_are_loaded mode lines replies s D h is = subst (λ o. IfSome o IsLoaded) is (sound_to mode lines replies s h).loaded
 
 -- ---- before `load` nothing is counted
 

@@ -9,3 +9,4 @@ pub mod Output
 pub mod Runs
 pub mod Steps
 pub mod Named
+pub mod Loaded

@@ -2,6 +2,7 @@
 ghost use Rattle.std.specs.Prelude.{◌≡◌, ◌≢◌, ◌≤◌, ◌↔◌, false, length, map, Some, None, IfSome};
 ghost use Rattle.std.specs.String.{string_bytes};
 ghost use Rattle.lie_session.specs.Output.{OneOutput, FieldsAreSized, DataAreLoaded};
+ghost use Rattle.lie_session.specs.Loaded.{GroupsAreLoaded, MatricesAreProducts};
 ghost use Rattle.lie_reply.specs.Laws.{RepliesTellWords, RepliesDecideTorusWords};
 ghost use Rattle.lie_session.specs.Runs.{mode_of, input_limit, Cause, CauseOf, ReadCounts, WriteCounts, Complete, Exceeds};
 ghost use Rattle.lie_session.specs.Steps.{stop_status, Answered, AnsweredAtEnd, Replied};
@@ -143,6 +144,11 @@ pub fn lie<S: Source, K: Sink>(
     ensures torus_words { RepliesDecideTorusWords }
     ensures sized { FieldsAreSized }
     ensures sound { DataAreLoaded }
+
+    // What the lines have brought: a loaded group is one, its named modules are built from it, and the reply to `matrix`
+    // has the rows of the product of the matrices of the letters on such a module.
+    ensures loaded { GroupsAreLoaded }
+    ensures matrices { MatricesAreProducts }
 {
     match asked(words) {
         Some(mode) => run(alloc, mode, source, sink),

@@ -1,6 +1,7 @@
 use Rattle.std.proofs.Common.{sym, ◌∙◌}
 use Rattle.lie_session.proofs.CauseLemmas.{complete_from}
 use Rattle.lie_session.proofs.StatusLemmas.{fields_are_sized, data_are_loaded}
+use Rattle.lie_session.proofs.LoadedLemmas.{groups_are_loaded, matrices_are_products}
 use Rattle.lie_session.proofs.OneOutputLemmas.{one_output}
 use Rattle.lie_reply.proofs.TextLemmas.{replies_tell_words, replies_decide_torus_words}
 use Rattle.lie_session.proofs.program.lie.Goals as goal
@@ -26,6 +27,12 @@ returns-in-Some-clause-sized g c = fields_are_sized
 pub returns-in-Some-clause-sound : goal.returns-in-Some-clause-sound
 returns-in-Some-clause-sound g c = data_are_loaded
 
+pub returns-in-Some-clause-loaded : goal.returns-in-Some-clause-loaded
+returns-in-Some-clause-loaded g c = groups_are_loaded
+
+pub returns-in-Some-clause-matrices : goal.returns-in-Some-clause-matrices
+returns-in-Some-clause-matrices g c = matrices_are_products
+
 pub returns-in-None-clause-one : goal.returns-in-None-clause-one
 returns-in-None-clause-one g c = one_output
 
@@ -40,3 +47,9 @@ returns-in-None-clause-sized g c = fields_are_sized
 
 pub returns-in-None-clause-sound : goal.returns-in-None-clause-sound
 returns-in-None-clause-sound g c = data_are_loaded
+
+pub returns-in-None-clause-loaded : goal.returns-in-None-clause-loaded
+returns-in-None-clause-loaded g c = groups_are_loaded
+
+pub returns-in-None-clause-matrices : goal.returns-in-None-clause-matrices
+returns-in-None-clause-matrices g c = matrices_are_products
