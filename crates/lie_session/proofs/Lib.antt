@@ -2,6 +2,7 @@ pub mod ToldLemmas
 pub mod LineLemmas
 pub mod InputLemmas
 pub mod StateLemmas
+mod NamedLemmas
 pub mod ConstantLemmas
 pub mod OneLoading
 pub mod ChangeLemmas

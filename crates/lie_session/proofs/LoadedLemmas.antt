@@ -45,6 +45,7 @@ use Rattle.lie_session.specs.declared.datum.DatumStage.TheVariants as datum
 use Rattle.lie_session.specs.declared.mode.Mode.{Mode}
 use Rattle.lie_session.specs.declared.reply.Reply.{Reply}
 use Rattle.lie_session.proofs.ChangeLemmas.{IsSoundState, sound_from, in_datum}
+use Rattle.lie_session.proofs.StateLemmas.{free_from}
 use Rattle.lie_session.proofs.StatusLemmas.{kept_to}
 
 -- a loaded group is a group, and before `load` no module has a name
@@ -122,11 +123,6 @@ lookup-append test (x ∷ xs) ys = by_test (test x.0) (lookup-append test xs ys)
   by_test true is = refl
   by_test false is = is
 
--- no value has no image
-none_mapped : {A B : Type 0} (f : A → B) (o : Option A) → option_map f o ≡ None → o ≡ None
-none_mapped f None h = refl
-none_mapped f (Some a) h = absurd cc
-
 -- each module is found by its name
 abbrev AreFound : Named → Type 0
 AreFound modules = AllByRecursion (λ e. module_of modules e.0 ≡ Some e.1) modules
@@ -147,7 +143,7 @@ found_more modules name v free h =
       last =
           lookup-append (λ other. bytes_eq other name) modules ((name, v) ∷ [])
           ∙ ap (λ o. option_or o (module_of ((name, v) ∷ []) name))
-          (none_mapped dimension (module_of modules name) (sym (lookup-map_values dimension (λ other. bytes_eq other name) modules) ∙ free))
+          (free_from modules name free)
           ∙ ap (λ b. cond b (Some v) None) ((bytes_eq-Decides name name).1 refl)
 
 -- the same group, with these modules

@@ -224,6 +224,16 @@ known_from : (modules : Named) (name : List ℕ) → IsSome (dimension_of (liste
 known_from modules name h =
     some_mapped dimension (module_of modules name) (subst IsSome (lookup-map_values dimension (λ other. bytes_eq other name) modules) h)
 
+-- no value has no image
+none_mapped : {A B : Type 0} (g : A → B) (o : Option A) → option_map g o ≡ None → o ≡ None
+none_mapped g None h = refl
+none_mapped g (Some a) h = absurd cc
+
+-- a name that is not listed has no module
+pub free_from : (modules : Named) (name : List ℕ) → dimension_of (listed_of modules) name ≡ None → module_of modules name ≡ None
+free_from modules name h =
+    none_mapped dimension (module_of modules name) (sym (lookup-map_values dimension (λ other. bytes_eq other name) modules) ∙ h)
+
 -- a session can do what a line says that fits
 ready_from : (s : State) (said : Line) → Holds s → Fits (wants_of s) (sizes_of s) (listed_of s.modules) said → Ready s said
 ready_from s line.Silent holds fits = tt
@@ -242,10 +252,10 @@ ready_from s (line.Constant p q) holds fits =
     (sym (loaded_from s.field s.datum s.loaded there) ∙ ap is_late fits.0 ∙ late_command, pair_from s.field s.datum p q there fits.1 fits.2 fits.3)
 ready_from s (line.Adjoint name) holds fits =
     let there = later_from s.field s.datum s.loaded (subst IsLater (sym fits.0) tt) in
-    (sym (loaded_from s.field s.datum s.loaded there) ∙ ap is_late fits.0 ∙ late_command, there.0, there.1)
+    (sym (loaded_from s.field s.datum s.loaded there) ∙ ap is_late fits.0 ∙ late_command, there.0, there.1, free_from s.modules name fits.1.free)
 ready_from s (line.Orbit name w) holds fits =
     let there = later_from s.field s.datum s.loaded (subst IsLater (sym fits.0) tt) in
-    (sym (loaded_from s.field s.datum s.loaded there) ∙ ap is_late fits.0 ∙ late_command, there.0, there.1, long_from s.datum (length w) there.1 fits.2, padded_within w fits.3)
+    (sym (loaded_from s.field s.datum s.loaded there) ∙ ap is_late fits.0 ∙ late_command, there.0, there.1, long_from s.datum (length w) there.1 fits.2, padded_within w fits.3, free_from s.modules name fits.1.free)
 ready_from s (line.Matrix name w) holds fits =
     let there = later_from s.field s.datum s.loaded (subst IsLater (sym fits.0) tt) in
     (sym (loaded_from s.field s.datum s.loaded there) ∙ ap is_late fits.0 ∙ late_command, letters_from s.field s.datum s.loaded w there fits.2, known_from s.modules name fits.1)

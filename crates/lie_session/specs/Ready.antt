@@ -1,6 +1,6 @@
 -- What a session has where a line is awaited, so that it can do what the line says.
 -- Own.
-use Rattle.std.specs.Prelude.{⊤, ◌≡◌, ◌≤◌, pos, true, false, length, Option, Ok}
+use Rattle.std.specs.Prelude.{⊤, ◌≡◌, ◌≤◌, pos, true, false, length, Option, None, Ok}
 use Rattle.std.specs.List.{All, AllByRecursion}
 use Rattle.std.specs.Option.{IfSome, IsSome, IsSomeAnd}
 use Rattle.lie_audit.specs.WordMatrix.{IsWordFor}
@@ -52,7 +52,7 @@ Ready s (line.Form w) =
 Ready s line.Roots = IsSome s.field × IsSome (whole s.datum)
 Ready s (line.Constant p q) = (s.loaded ≡ true) × IsSomeAnd s.field (λ F. IsSomeAnd (whole s.datum) (λ D. IsPair D p q))
 Ready s (line.Weyl indices) = IsSomeAnd s.field (λ F. IsSomeAnd (whole s.datum) (λ D. AreIndices D indices))
-Ready s (line.Adjoint name) = (s.loaded ≡ true) × IsSome s.field × IsSome (whole s.datum)
-Ready s (line.Orbit name w) = (s.loaded ≡ true) × IsSome s.field × IsSome (whole s.datum) × IsSomeAnd (whole s.datum) (λ D. length w ≡ D.base.dim) × IsWithin 100 (padded w)
+Ready s (line.Adjoint name) = (s.loaded ≡ true) × IsSome s.field × IsSome (whole s.datum) × (module_of s.modules name ≡ None)
+Ready s (line.Orbit name w) = (s.loaded ≡ true) × IsSome s.field × IsSome (whole s.datum) × IsSomeAnd (whole s.datum) (λ D. length w ≡ D.base.dim) × IsWithin 100 (padded w) × (module_of s.modules name ≡ None)
 Ready s (line.Matrix name w) =
     (s.loaded ≡ true) × IsSomeAnd s.field (λ F. IsSomeAnd (whole s.datum) (λ D. IsLoaded D → IsWordFor F D w)) × IsSome (module_of s.modules name)

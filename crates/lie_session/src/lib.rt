@@ -5,7 +5,7 @@
 //! reply to a line), `specs/Output.antt` (the replies to a script) and `specs/Runs.antt` (the cause of
 //! each status). What a line says is read by `lie_script`, and commands are
 //! answered by `lie_reply`. The crate stands on these, `lie_kit`, `lie_field`, `lie_datum`, `lie_const`,
-//! `lie_weight`, `lie_audit` and `lie_letters`.
+//! `lie_weight`, `lie_audit`, `lie_letters`, and on `indexmap` for the table of named modules.
 #![tactic(auto)]
 
 mod cutting;

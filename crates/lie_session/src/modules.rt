@@ -1,25 +1,26 @@
 //! The named modules of a loaded group.
-ghost use Rattle.std.specs.Prelude.{◌≡◌, ◌∷◌, ◌++◌, [], OnOk, OnErr};
+ghost use Rattle.std.specs.Prelude.{◌≡◌, ◌∷◌, ◌++◌, [], None, OnOk, OnErr};
 ghost use Rattle.std.specs.Option.{option_copied};
 ghost use Rattle.lie_session.specs.Named.{module_of, listed_of};
 
-use lie_script::{Names, Text};
+use indexmap::IndexMap;
+use lie_script::Names;
 use lie_weight::Module;
 use std::alloc::{AllocError, Global};
 use std::marker::Model;
 
-/// Names with their modules, in the order of making.
+/// Modules by their names, in the order of making.
 #[derive(Drop)]
 pub(crate) struct Modules {
-    list: Vec<(Text, Module)>,
+    table: IndexMap<Vec<u8>, Module>,
 }
 
 impl Model for Modules {
-    ghost use Rattle.lie_session.specs.Named.{Named};
+    ghost use Rattle.lie_session.specs.Named.{Named, named_of};
 
     ghost Value = { Named };
 
-    ghost view = { λ m. m.list.items };
+    ghost view = { λ m. named_of m.table.entries };
 }
 
 impl Modules {
@@ -28,30 +29,32 @@ impl Modules {
         ensures { result ≡ [] }
     {
         Modules {
-            list: Vec::new(alloc),
+            table: IndexMap::new(alloc),
         }
     }
 
-    /// Writes a module behind the others.
-    pub(crate) fn push(&mut self, name: Text, module: Module) -> Result<(), AllocError>
-        ensures pushed { OnOk result (self.new ≡ self.old ++ (name, «module») ∷ []) }
+    /// Gives a module a new name, behind the others.
+    pub(crate) fn push(
+        &mut self,
+        alloc: Global,
+        name: &[u8],
+        module: Module,
+    ) -> Result<(), AllocError>
+        requires { module_of self.old name.now ≡ None }
+        ensures pushed { OnOk result (self.new ≡ self.old ++ (name.now, «module») ∷ []) }
         ensures left { OnErr result (self.new ≡ self.old) }
     {
-        self.list.push((name, module))?;
+        let name = Vec::from_slice(alloc, name)?;
+        self.table.insert(name, module)?;
         Ok(())
     }
 
     /// The module of a name.
+    #[tactic(auto, using(crate::proofs::NamedLemmas::named_module))]
     pub(crate) fn find(&self, name: &[u8]) -> Option<&Module>
         ensures { option_copied result ≡ module_of self.now name.now }
     {
-        for i in 0..self.list.len() {
-            let (other, module) = &self.list[i];
-            if other.bytes() == name {
-                return Some(module);
-            }
-        }
-        None
+        self.table.get(name)
     }
 }
 
@@ -66,6 +69,6 @@ impl Names for Modules {
     }
 
     fn count(&self) -> usize {
-        self.list.len()
+        self.table.len()
     }
 }

@@ -1,5 +1,5 @@
 //! A session over the lines of a script.
-ghost use Rattle.std.specs.Prelude.{◌≡◌, ◌≢◌, ◌≤◌, true, false, [], ◌∷◌, Some, Ok, pos, nat_abs, map, length, All, IfOk, OnErr, MatchOption};
+ghost use Rattle.std.specs.Prelude.{◌≡◌, ◌≢◌, ◌≤◌, true, false, [], ◌∷◌, Some, None, Ok, pos, nat_abs, map, length, All, IfOk, OnErr, MatchOption};
 ghost use Rattle.std.specs.Option.{IfSome, IsSome, IsSomeAnd};
 ghost use Rattle.lie_const.specs.ConstantTables.{LoadsConstants};
 ghost use Rattle.lie_const.specs.Modules.{IsModule};
@@ -526,40 +526,42 @@ impl Session {
         }
     }
 
-    /// Gives a module a name.
+    /// Gives a module a new name.
     fn name_module(
         &mut self,
         alloc: Global,
-        name: Text,
+        name: &[u8],
         module: Module,
     ) -> Result<Reply, AllocError>
         requires loaded { self.old.loaded ≡ true }
         requires datum { IsSomeAnd (whole self.old.datum) (λ D. IsModule D «module») }
-        ensures { IfOk result (λ reply. NamesModule self.old name «module» reply self.new) }
+        requires free { module_of self.old.modules name.now ≡ None }
+        ensures { IfOk result (λ reply. NamesModule self.old name.now «module» reply self.new) }
     {
-        let text = module_text(alloc, name.bytes(), module.dim())?;
-        self.modules.push(name, module)?;
+        let text = module_text(alloc, name, module.dim())?;
+        self.modules.push(alloc, name, module)?;
         Ok(answer(text))
     }
 
-    /// Gives the adjoint module a name.
-    fn name_adjoint(&mut self, alloc: Global, name: Text) -> Result<Reply, AllocError>
+    /// Gives the adjoint module a new name.
+    fn name_adjoint(&mut self, alloc: Global, name: &[u8]) -> Result<Reply, AllocError>
         requires loaded { self.old.loaded ≡ true }
         requires field { IsSome self.old.field }
         requires datum { IsSome (whole self.old.datum) }
-        ensures { IfOk result (λ reply. WithBoth self.old (λ F D. NamesAdjoint self.old D name reply self.new)) }
+        requires free { module_of self.old.modules name.now ≡ None }
+        ensures { IfOk result (λ reply. WithBoth self.old (λ F D. NamesAdjoint self.old D name.now reply self.new)) }
     {
         let (_field, datum) = self.both();
         let module = Module::adjoint(alloc, datum, self.constants())?;
         self.name_module(alloc, name, module)
     }
 
-    /// Gives the module of the orbit of a weight a name.
+    /// Gives the module of the orbit of a weight a new name.
     fn name_orbit(
         &mut self,
         alloc: Global,
         number: u64,
-        name: Text,
+        name: &[u8],
         v: &Numbers,
     ) -> Result<Reply, AllocError>
         requires loaded { self.old.loaded ≡ true }
@@ -567,7 +569,8 @@ impl Session {
         requires datum { IsSome (whole self.old.datum) }
         requires long { IsSomeAnd (whole self.old.datum) (λ D. length v.now ≡ D.base.dim) }
         requires small { IsWithin 100 (with_zeros v.now) }
-        ensures { IfOk result (λ reply. WithBoth self.old (λ F D. WithSigns self.old (λ t. NamesOrbit self.old number D t name v.now reply self.new))) }
+        requires free { module_of self.old.modules name.now ≡ None }
+        ensures { IfOk result (λ reply. WithBoth self.old (λ F D. WithSigns self.old (λ t. NamesOrbit self.old number D t name.now v.now reply self.new))) }
     {
         let (_field, datum) = self.both();
         datum.loaded();
@@ -629,8 +632,8 @@ impl Session {
                 let (_field, datum) = self.both();
                 Ok(answer(weyl_text(alloc, datum, &indices)?))
             }
-            Line::Adjoint { name } => self.name_adjoint(alloc, name),
-            Line::Orbit { name, v } => self.name_orbit(alloc, number, name, &v),
+            Line::Adjoint { name } => self.name_adjoint(alloc, name.bytes()),
+            Line::Orbit { name, v } => self.name_orbit(alloc, number, name.bytes(), &v),
             Line::Matrix { name, w } => {
                 let text = self.matrix(alloc, name.bytes(), &w)?;
                 Ok(answer(text))
