@@ -4,6 +4,9 @@
 //! standard error, and ends with the status.
 #![tactic(auto)]
 
+ghost use Rattle.std.specs.Prelude.{◌≡◌, ◌⊎◌, IfErr};
+ghost use Rattle.lie_cli.specs.Endings.{exit_status, complaint as complaint_text};
+
 use lie_kit::{StdSink, StdSource};
 use lie_session::{Status, lie};
 use std::alloc::Global;
@@ -13,7 +16,9 @@ use std::process::ExitCode;
 
 /// The words of the command line without the program's name. Where one isn't UTF-8 they aren't
 /// those of the program.
-fn words(rt: &HostRuntime, alloc: Global) -> Result<Vec<String>, Status> {
+fn words(rt: &HostRuntime, alloc: Global) -> Result<Vec<String>, Status>
+    ensures { IfErr result (λ status. (status ≡ Status.Usage) ⊎ (status ≡ Status.NoMemory)) }
+{
     match env::args(rt) {
         Ok(args) => args.skip(1).collect(alloc).map_err(|_| Status::NoMemory),
         Err(error) if error.kind() == ErrorKind::OutOfMemory => Err(Status::NoMemory),
@@ -22,7 +27,9 @@ fn words(rt: &HostRuntime, alloc: Global) -> Result<Vec<String>, Status> {
 }
 
 /// The exit status.
-fn code(status: Status) -> u8 {
+fn code(status: Status) -> u8
+    ensures { result ≡ exit_status status }
+{
     match status {
         Status::Done => 0,
         Status::Refused => 1,
@@ -36,7 +43,9 @@ fn code(status: Status) -> u8 {
 }
 
 /// What is said of a failure, and nothing of the other statuses.
-fn complaint(status: Status) -> &'static str {
+fn complaint(status: Status) -> &'static str
+    ensures { result.now ≡ complaint_text status }
+{
     match status {
         Status::Done | Status::Refused | Status::LoadRefused => "",
         Status::Usage => "usage: lie run | lie check | lie demo <n>\n",
