@@ -4,7 +4,8 @@
 #   sh bench/relations.sh
 #
 # In each script the `matrix` lines stand in pairs, the two sides of one relation. Where python3 is there, the whole output is also
-# compared with what bench/relations.py works out from the definitions.
+# compared with what bench/relations.py works out from the definitions. The scripts of A_2 and G_2 over five are stored runs of the gate
+# too: that they are still the same is checked first.
 set -eu
 here=$(cd "$(dirname "$0")" && pwd)
 top=$(dirname "$here")
@@ -25,6 +26,8 @@ differing() {
 "$top/lie" run <"$top/examples/torus.lie" >/dev/null
 if command -v python3 >/dev/null 2>&1; then python3 "$here/relations.py" "$rooms/worked" >/dev/null; fi
 failed=0
+cmp "$here/relations/A2_5.lie" "$top/crates/relations_a2/stdin" || failed=1
+cmp "$here/relations/G2_5.lie" "$top/crates/relations_g2/stdin" || failed=1
 for script in "$here"/relations/*.lie; do
     name=$(basename "$script" .lie)
     "$top/crates/lie_cli/out/lie_cli" run <"$script" >"$rooms/out" || failed=1
