@@ -506,93 +506,44 @@ fn checks(rt: HostRuntime) -> Result<(), Fail> {
     Ok(())
 }
 
+// A run whose pulls and pushes fail at these calls, counted from 1.
+const fn failing<'a>(pulls: &'a [u64], pushes: &'a [u64]) -> Run<'a> {
+    Run {
+        pulls,
+        pushes,
+        ..PLAIN
+    }
+}
+
 #[test]
 fn failing_streams(rt: HostRuntime) -> Result<(), Fail> {
-    // the run over the first worked row, its output, its status
+    let single = Run { piece: 1, ..PLAIN };
+    // the run over the first script, its output, its status
     let cases = [
-        (
-            Run { piece: 1, ..PLAIN },
-            "loaded 5 1 0 1\n- | 1 | - | -\n",
-            Status::Done,
-        ),
-        (
-            Run {
-                pulls: &[1],
-                ..PLAIN
-            },
-            "",
-            Status::ReadFault,
-        ),
-        (
-            Run {
-                pulls: &[2],
-                ..PLAIN
-            },
-            "",
-            Status::ReadFault,
-        ),
-        (
-            Run {
-                pushes: &[1],
-                ..PLAIN
-            },
-            "",
-            Status::WriteFault,
-        ),
-        (
-            Run {
-                pushes: &[2],
-                ..PLAIN
-            },
-            "loaded 5 1 0 1\n",
-            Status::WriteFault,
-        ),
-        (
-            Run {
-                words: &["demo", "0"],
-                ..PLAIN
-            },
-            "",
-            Status::Usage,
-        ),
-        (
-            Run {
-                words: &["demo", "01"],
-                ..PLAIN
-            },
-            "",
-            Status::Usage,
-        ),
-        (
-            Run {
-                words: &["walk"],
-                ..PLAIN
-            },
-            "",
-            Status::Usage,
-        ),
-        (
-            Run {
-                words: &[],
-                ..PLAIN
-            },
-            "",
-            Status::Usage,
-        ),
-        (
-            Run {
-                words: &["run", "run"],
-                ..PLAIN
-            },
-            "",
-            Status::Usage,
-        ),
+        (single, "loaded 5 1 0 1\n- | 1 | - | -\n", Status::Done),
+        (failing(&[1], &[]), "", Status::ReadFault),
+        (failing(&[2], &[]), "", Status::ReadFault),
+        (failing(&[], &[1]), "", Status::WriteFault),
+        (failing(&[], &[2]), "loaded 5 1 0 1\n", Status::WriteFault),
     ];
     for (run, output, status) in cases {
-        let input = Vec::from_slice(rt.alloc(), PRODUCT.as_bytes())?;
-        let (ended, sink) = run.over(rt.alloc(), input)?;
-        assert_eq!(rt; ended, status);
-        assert_eq!(rt; sink.bytes(), output.as_bytes());
+        assert!(rt; runs(rt.alloc(), run, "", PRODUCT, output, status)?);
+    }
+    Ok(())
+}
+
+#[test]
+fn other_words(rt: HostRuntime) -> Result<(), Fail> {
+    let words: [&[&str]; 5] = [
+        &["demo", "0"],
+        &["demo", "01"],
+        &["walk"],
+        &[],
+        &["run", "run"],
+    ];
+    for words in words {
+        let run = Run { words, ..PLAIN };
+        assert!(rt; runs(rt.alloc(), run, "", PRODUCT, "", Status::Usage)?);
     }
     Ok(())
 }
