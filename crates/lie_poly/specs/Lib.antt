@@ -1,0 +1,10 @@
+pub mod Terms
+pub mod Canonical
+pub mod Polynomials
+pub mod Totals
+pub mod LaurentLaws
+pub mod Evaluation
+pub mod EvaluationLaws
+pub mod Differences
+pub mod Laws
+pub mod CoefficientLaws

@@ -1,0 +1,12 @@
+//! Laurent polynomials in t and u with integer coefficients.
+#![tactic(auto)]
+
+mod laws;
+mod poly;
+mod term;
+
+pub use laws::{
+    evaluation_is_homomorphism, monomials_have_values, operations_are_coefficientwise,
+    polynomials_are_coefficients,
+};
+pub use poly::Poly;
