@@ -1,0 +1,5 @@
+pub mod TermLemmas
+pub mod MergeLemmas
+pub mod ProductLemmas
+pub mod SearchLemmas
+pub mod DifferenceLemmas

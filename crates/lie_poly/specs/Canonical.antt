@@ -20,15 +20,15 @@ pub zero_is : (n : ℤ) → int_eq n (pos 0) ≡ true → n ≡ pos 0
 zero_is n e = (Decides-int_eq n (pos 0)).0 e
 
 -- ---- tests of both
-both : (a b : Bool) → T a → T b → T (a && b)
+pub both : (a b : Bool) → T a → T b → T (a && b)
 both true b p q = q
 both false b p q = absurd p
 
-left_of : (a b : Bool) → T (a && b) → T a
+pub left_of : (a b : Bool) → T (a && b) → T a
 left_of true b p = tt
 left_of false b p = p
 
-right_of : (a b : Bool) → T (a && b) → T b
+pub right_of : (a b : Bool) → T (a && b) → T b
 right_of true b p = p
 right_of false b p = absurd p
 
@@ -39,15 +39,15 @@ above e xs = list_all (λ y. is_lt (exponents_cmp e y.exponents)) xs
 abbrev is_nonzero : ℤ → Bool
 is_nonzero n = not (int_eq n (pos 0))
 
-less_is : (r : Ordering) → T (is_lt r) → r ≡ Less
+pub less_is : (r : Ordering) → T (is_lt r) → r ≡ Less
 less_is Less t = refl
 less_is Equal t = absurd t
 less_is Greater t = absurd t
 
-is_less : (r : Ordering) → r ≡ Less → T (is_lt r)
+pub is_less : (r : Ordering) → r ≡ Less → T (is_lt r)
 is_less r e = subst (λ o. T (is_lt o)) (sym e) tt
 
-above-from : (d e : Exponents) (ys : Terms) → exponents_cmp d e ≡ Less → T (above e ys) → T (above d ys)
+pub above-from : (d e : Exponents) (ys : Terms) → exponents_cmp d e ≡ Less → T (above e ys) → T (above d ys)
 above-from d e [] p h = tt
 above-from d e (y ∷ ys) p h =
     both (is_lt (exponents_cmp d y.exponents)) (above d ys)
@@ -60,7 +60,7 @@ above-keep e x xs p h = elim (int_eq x.coefficient (pos 0)) as (λ b. T (above e
   | false ↦ both (is_lt (exponents_cmp e x.exponents)) (above e xs) p h
 ]
 
-above-plus : (e : Exponents) (x : Term) (ys : Terms) → T (is_lt (exponents_cmp e x.exponents)) → T (above e ys) → T (above e (plus_term x ys))
+pub above-plus : (e : Exponents) (x : Term) (ys : Terms) → T (is_lt (exponents_cmp e x.exponents)) → T (above e ys) → T (above e (plus_term x ys))
 above-plus e x [] p h = above-keep e x [] p h
 above-plus e x (y ∷ ys) p h =
     let here = left_of (is_lt (exponents_cmp e y.exponents)) (above e ys) h in
@@ -116,7 +116,7 @@ coefficient-above e (y ∷ ys) h =
     ∙ coefficient-above e ys (right_of (is_lt (exponents_cmp e y.exponents)) (above e ys) h)
 
 -- the first number stands at the first exponents
-coefficient-first : (x : Term) (xs : Terms) → coefficient_in (x ∷ xs) x.exponents ≡ x.coefficient
+pub coefficient-first : (x : Term) (xs : Terms) → coefficient_in (x ∷ xs) x.exponents ≡ x.coefficient
 coefficient-first x xs = ap (λ r. cond (is_eq r) x.coefficient (coefficient_in xs x.exponents)) (tied_itself exponents_total x.exponents)
 
 pub above-tied : (d e : Exponents) (ys : Terms) → exponents_cmp d e ≡ Equal → T (above e ys) → T (above d ys)
@@ -126,7 +126,7 @@ nonzero_is : (n : ℤ) → T (is_nonzero n) → n ≢ pos 0
 nonzero_is n t e = subst T (ap not ((Decides-int_eq n (pos 0)).1 e)) t
 
 -- the parts of a canonical list that is not empty
-first_nonzero : (x : Term) (xs : Terms) → T (is_canonical (x ∷ xs)) → x.coefficient ≢ pos 0
+pub first_nonzero : (x : Term) (xs : Terms) → T (is_canonical (x ∷ xs)) → x.coefficient ≢ pos 0
 first_nonzero x xs h = nonzero_is x.coefficient (left_of (is_nonzero x.coefficient) (above x.exponents xs) (left_of (is_nonzero x.coefficient && above x.exponents xs) (is_canonical xs) h))
 
 pub rest_above : (x : Term) (xs : Terms) → T (is_canonical (x ∷ xs)) → T (above x.exponents xs)

@@ -1,15 +1,19 @@
 -- The first difference of two Laurent polynomials.
--- Own: the order of the exponents, by that of t, then of u, both rising.
-use Rattle.std.specs.Prelude.{◌≡◌, ◌≢◌, ℤ, ◌<ℤ◌, ◌⊎◌}
-use Rattle.lie_poly.specs.Polynomials.{Polynomial, coefficient}
+-- Own: the order, by the exponent of t, then of u, both rising.
+--
+--   the coefficients of p              coefficient p             at (i, j)
+--   f and g first differ at (i, j)     IsFirstDifference f g i j a b
+use Rattle.std.specs.Prelude.{◌≡◌, ◌≢◌, ℤ}
+use Rattle.std.specs.declared.cmp.Ordering.TheVariants.{Less}
+use Rattle.lie_poly.specs.Terms.{Terms, exponents_cmp, coefficient_in}
 
--- (k, l) comes before (i, j)
-abbrev pub IsBefore : ℤ → ℤ → ℤ → ℤ → Type 0
-IsBefore k l i j = (k <ℤ i) ⊎ ((k ≡ i) × (l <ℤ j))
+-- the coefficients of a canonical list
+abbrev pub coefficients_of : Terms → ℤ → ℤ → ℤ
+coefficients_of xs i j = coefficient_in xs (i, j)
 
--- a and b are the coefficients of p and q at (i, j), they differ, and all coefficients before are equal
-pub record IsFirstDifference (p q : Polynomial) (i j a b : ℤ) : Type 0 where
-  pub of_first : a ≡ coefficient p i j
-  pub of_second : b ≡ coefficient q i j
+-- f is a and g is b at (i, j), these differ, and f and g are equal before it
+pub record IsFirstDifference (f g : ℤ → ℤ → ℤ) (i j a b : ℤ) : Type 0 where
+  pub of_first : a ≡ f i j
+  pub of_second : b ≡ g i j
   pub differ : a ≢ b
-  pub before : (k l : ℤ) → IsBefore k l i j → coefficient p k l ≡ coefficient q k l
+  pub before : (k l : ℤ) → exponents_cmp (k, l) (i, j) ≡ Less → f k l ≡ g k l

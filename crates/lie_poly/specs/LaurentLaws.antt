@@ -43,7 +43,7 @@ same_totals p q same = same_coefficients p q (λ e.
     coefficient-total e p.terms p.canonical ∙ same (delta e) ∙ sym (coefficient-total e q.terms q.canonical))
 
 -- ---- the sums over the operations
-collected : (f : Exponents → ℤ) (xs : Terms) → total f (collect xs) ≡ total f xs
+pub collected : (f : Exponents → ℤ) (xs : Terms) → total f (collect xs) ≡ total f xs
 collected f xs = total-collect integers integers_ring f (λ _. refl) xs
 
 pub over_add : (f : Exponents → ℤ) (p q : Polynomial) → total f (plus p q).terms ≡ total f p.terms +ℤ total f q.terms
@@ -155,7 +155,7 @@ size-times : (x : Term) (ys : Terms) → size_of (times x ys) ≡ nat_abs x.coef
 size-times x [] = omega arith
 size-times x (y ∷ ys) = omega (arith, size-times x ys, unsigned_abs-mul x.coefficient y.coefficient, mul-add (nat_abs x.coefficient) (nat_abs y.coefficient) (size_of ys))
 
-size-products : (xs ys : Terms) → size_of (products xs ys) ≡ size_of xs * size_of ys
+pub size-products : (xs ys : Terms) → size_of (products xs ys) ≡ size_of xs * size_of ys
 size-products [] ys = omega arith
 size-products (x ∷ xs) ys = omega (arith, size-append (times x ys) (products xs ys), size-times x ys, size-products xs ys, add-mul (nat_abs x.coefficient) (size_of xs) (size_of ys))
 
