@@ -3,3 +3,4 @@ pub mod MergeLemmas
 pub mod ProductLemmas
 pub mod SearchLemmas
 pub mod DifferenceLemmas
+pub mod EvaluationLemmas
