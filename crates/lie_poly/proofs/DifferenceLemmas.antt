@@ -1,10 +1,10 @@
 -- Where two canonical lists first differ.
-use Rattle.std.proofs.Common.{◌≡◌, ◌≢◌, ℕ, zero, suc, ◌+◌, ◌<◌, ◌≤◌, List, [], ◌∷◌, ◌++◌, length, get_or, drop, take, refl, sym, ap, ap₂, ◌∙◌, cond, subst, Less, Equal, Greater, Bool, true, false, T, ◌&&◌, arith}
+use Rattle.std.proofs.Common.{◌≡◌, ◌≢◌, ℕ, zero, suc, ◌+◌, ◌<◌, ◌≤◌, [], ◌∷◌, length, get_or, drop, take, refl, sym, ap, ◌∙◌, cond, subst, Less, Equal, true, false, T, arith}
 use Rattle.std.specs.Prelude.{ℤ, pos}
-use Rattle.std.specs.Ordering.{is_eq, is_lt, ordering_reverse}
+use Rattle.std.specs.Ordering.{is_eq, is_lt}
 use Rattle.std.proofs.lemmas.List.{drop_more}
 use Rattle.lie_poly.specs.Terms.{Exponents, Term, Terms, exponents_cmp, is_canonical, coefficient_in}
-use Rattle.lie_poly.specs.Canonical.{above, above-from, above-tied, exponents_total, exact_exponents, rest_above, rest_canonical, first_nonzero, is_less, both, eq_is, coefficient-above, coefficient-first}
+use Rattle.lie_poly.specs.Canonical.{above, above-from, above-tied, exact_exponents, rest_above, rest_canonical, first_nonzero, is_less, both, eq_is, coefficient-above, coefficient-first}
 use Rattle.std.proofs.Common.{Option, Some, None, MatchOption}
 use Rattle.lie_poly.specs.Polynomials.{Polynomial, same_polynomial, coefficient}
 use Rattle.lie_poly.proofs.TermLemmas.{canonical-drop}
@@ -138,6 +138,7 @@ answer-first f g r x z a b answer value is d =
     let terms : ◌≡◌ {A = ℤ × ℤ × ℤ × ℤ} (x.exponents.0, x.exponents.1, x.coefficient, b) (z.exponents.0, z.exponents.1, z.coefficient, b) = λ i. ((is i).exponents.0, (is i).exponents.1, (is i).coefficient, b) in
     subst (λ (q : ℤ × ℤ × ℤ × ℤ). IsFirstDifference f g q.0 q.1 q.2 q.3) (sym (answer ∙ values ∙ terms)) d
 
+-- the same where the term is of the second list
 pub answer-second : (f g : ℤ → ℤ → ℤ) (r : ℤ × ℤ × ℤ × ℤ) (y z : Term) (a b : ℤ) → r ≡ (y.exponents.0, y.exponents.1, a, b) → b ≡ y.coefficient → y ≡ z →
     IsFirstDifference f g z.exponents.0 z.exponents.1 a z.coefficient → IsFirstDifference f g r.0 r.1 r.2 r.3
 answer-second f g r y z a b answer value is d =

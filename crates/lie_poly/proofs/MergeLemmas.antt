@@ -1,7 +1,6 @@
 -- How the canonical list of two canonical lists begins, and where a list is its own canonical list.
-use Rattle.std.proofs.Common.{◌≡◌, ◌≢◌, ℕ, zero, suc, ◌+◌, ◌<◌, List, [], ◌∷◌, ◌++◌, map, length, get_or, drop, take, refl, sym, ap, ap₂, ◌∙◌, cond, subst, Less, Equal, Greater, Bool, true, false, not, ◌&&◌, T, arith}
-use Rattle.std.specs.Prelude.{ℤ, pos, ◌+ℤ◌, ◌*ℤ◌, neg_ℤ}
-use Rattle.std.specs.declared.cmp.Ordering.{Ordering}
+use Rattle.std.proofs.Common.{◌≡◌, ◌≢◌, ℕ, suc, ◌+◌, ◌<◌, [], ◌∷◌, ◌++◌, length, get_or, drop, refl, sym, ap, ap₂, ◌∙◌, cond, subst, Less, Equal, Greater, true, false, not, T, arith}
+use Rattle.std.specs.Prelude.{ℤ, pos, ◌+ℤ◌, ◌*ℤ◌}
 use Rattle.std.specs.Ordering.{int_eq, is_lt, match_ordering, ordering_reverse}
 use Rattle.std.proofs.lemmas.Int.{ints}
 use Rattle.std.specs.Prelude.{◌⊎◌}
@@ -10,10 +9,10 @@ use Rattle.std.proofs.lemmas.List.{append-nil, drop_more}
 use mathlib.Core.Logic.{⊎_elim}
 use Rattle.lie_ring.specs.Integers.{integers}
 use Rattle.lie_ring.specs.IntegerLaws.{integers_ring}
-use Rattle.lie_ring.specs.RingLemmas.{add_mul, add_swap}
+use Rattle.lie_ring.specs.RingLemmas.{add_mul}
 use Rattle.lie_poly.specs.Terms.{Exponents, Term, Terms, term, exponents_cmp, is_canonical, keep, plus_term, collect}
 use Rattle.lie_poly.specs.Totals.{total-append}
-use Rattle.lie_poly.specs.Canonical.{above, above-plus, above-from, exponents_total, exact_exponents, rest_above, rest_canonical, first_nonzero, is_less, both, left_of, right_of, less_is, zero_is, canonical-collect}
+use Rattle.lie_poly.specs.Canonical.{above, above-plus, above-from, exponents_total, exact_exponents, rest_above, rest_canonical, first_nonzero, is_less, both, left_of, right_of, less_is, zero_is}
 use Rattle.lie_poly.specs.LaurentLaws.{total, same_totals, collected}
 use Rattle.lie_poly.specs.Polynomials.{Polynomial, polynomial}
 use Rattle.lie_poly.proofs.TermLemmas.{canonical-drop}
@@ -106,9 +105,11 @@ module _ (xs ys out : Terms) (i j : ℕ) (d : Term) (p : T (is_canonical xs)) (q
   x_left : T (is_canonical (get_or xs i d ∷ drop (i + 1) xs))
   x_left = subst (λ zs. T (is_canonical zs)) (drop_more xs i d h) (canonical-drop i xs p)
 
+  -- what is left of the second list is canonical
   y_left : T (is_canonical (get_or ys j d ∷ drop (j + 1) ys))
   y_left = subst (λ zs. T (is_canonical zs)) (drop_more ys j d k) (canonical-drop j ys q)
 
+  -- the canonical list of what is left, by the next terms
   opened : collect (drop i xs ++ drop j ys) ≡ collect ((get_or xs i d ∷ drop (i + 1) xs) ++ (get_or ys j d ∷ drop (j + 1) ys))
   opened = ap₂ (λ (v w : Terms). collect (v ++ w)) (drop_more xs i d h) (drop_more ys j d k)
 

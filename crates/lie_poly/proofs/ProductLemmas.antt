@@ -1,5 +1,5 @@
 -- Negatives and products of canonical lists.
-use Rattle.std.proofs.Common.{◌≡◌, ◌≢◌, ℕ, zero, suc, ◌+◌, ◌*◌, ◌<◌, ◌^◌, max, List, [], ◌∷◌, ◌++◌, map, length, refl, sym, ap, ap₂, ◌∙◌, cond, subst, Less, Equal, Greater, Bool, true, false, not, ◌&&◌, T, arith, append_assoc}
+use Rattle.std.proofs.Common.{◌≡◌, ◌≢◌, ◌+◌, ◌*◌, ◌<◌, ◌^◌, max, [], ◌∷◌, ◌++◌, map, refl, sym, ap, ap₂, ◌∙◌, subst, Less, Equal, Greater, true, false, not, ◌&&◌, T, arith, append_assoc}
 use Rattle.std.specs.Prelude.{ℤ, pos, ◌+ℤ◌, ◌*ℤ◌, neg_ℤ}
 use Rattle.std.specs.Prelude.{◌<ℤ◌, unsigned_abs}
 use Rattle.std.specs.declared.cmp.Ordering.{Ordering}
@@ -12,8 +12,8 @@ use Rattle.lie_ring.specs.Integers.{integers}
 use Rattle.lie_ring.specs.IntegerLaws.{integers_ring}
 use Rattle.lie_poly.specs.Terms.{Exponents, Term, Terms, term, exponents_cmp, shift, is_canonical, collect, product_term, times, products, size_of, degree_of}
 use Rattle.lie_poly.specs.Totals.{total-append}
-use Rattle.lie_poly.specs.Canonical.{above, rest_above, rest_canonical, first_nonzero, is_less, both, left_of, right_of, less_is, zero_is}
-use Rattle.lie_poly.specs.LaurentLaws.{total, collected, size-collect, size-products}
+use Rattle.lie_poly.specs.Canonical.{above, rest_above, rest_canonical, first_nonzero, both, left_of, right_of, zero_is}
+use Rattle.lie_poly.specs.LaurentLaws.{collected, size-collect, size-products}
 use Rattle.lie_poly.proofs.TermLemmas.{size-append}
 use Rattle.lie_poly.proofs.MergeLemmas.{collect-canonical, collect-alike}
 
@@ -28,6 +28,7 @@ nonzero_test n h = elim (int_eq n (pos 0)) as (λ b. int_eq n (pos 0) ≡ b → 
   | false ↦ λ _. tt
 ] refl
 
+-- negatives stay past e
 above-negatives : (e : Exponents) (xs : Terms) → T (above e xs) → T (above e (map negative_term xs))
 above-negatives e [] h = tt
 above-negatives e (x ∷ xs) h =
@@ -54,6 +55,7 @@ ranks-shift a b c Greater h = omega (arith, ints, h)
 int_cmp-shift : (a b c : ℤ) → int_cmp (a +ℤ b) (a +ℤ c) ≡ int_cmp b c
 int_cmp-shift a b c = sym (int_cmp_is (a +ℤ b) (a +ℤ c) (int_cmp b c) (ranks-shift a b c (int_cmp b c) (int_ranks b c)))
 
+-- the same exponents added to both change no order
 exponents_cmp-shift : (d e f : Exponents) → exponents_cmp (shift d e) (shift d f) ≡ exponents_cmp e f
 exponents_cmp-shift d e f = ap₂ ordering_then (int_cmp-shift d.0 e.0 f.0) (int_cmp-shift d.1 e.1 f.1)
 
@@ -68,6 +70,7 @@ product_nonzero a b p q e =
     let never : ⊥ = omega (arith, size, none, some) in
     never
 
+-- multiples of what is past e are past the shift of e
 above-times : (x : Term) (e : Exponents) (ys : Terms) → T (above e ys) → T (above (shift x.exponents e) (times x ys))
 above-times x e [] h = tt
 above-times x e (y ∷ ys) h =
@@ -142,6 +145,7 @@ pub record AreHalves (vs ws ys : Terms) : Type 0 where
   pub back_degree : degree_of ws + degree_of ys < 2 ^ 30
   pub sum_small : size_of (collect (products vs ys)) + size_of (collect (products ws ys)) < 2 ^ 126
 
+-- the conditions on a product give those on the products with both halves
 pub halves : (xs vs ws ys : Terms) → xs ≡ vs ++ ws → T (is_canonical xs) → size_of xs * size_of ys < 2 ^ 126 → degree_of xs + degree_of ys < 2 ^ 30 → AreHalves vs ws ys
 halves xs vs ws ys e p small low =
     let whole : T (is_canonical (vs ++ ws)) = subst (λ zs. T (is_canonical zs)) e p in

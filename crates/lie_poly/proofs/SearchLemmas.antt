@@ -1,13 +1,12 @@
 -- What a binary search finds in a canonical list.
-use Rattle.std.proofs.Common.{◌≡◌, ◌≢◌, ℕ, zero, suc, ◌+◌, ◌<◌, ◌≤◌, List, [], ◌∷◌, length, get_or, refl, sym, ap, ◌∙◌, cond, subst, Less, Equal, Greater, Bool, true, false, T, Result, Ok, Err, MatchResult, arith}
-use Rattle.std.specs.Prelude.{ℤ, pos}
+use Rattle.std.proofs.Common.{◌≡◌, ℕ, zero, suc, ◌+◌, ◌<◌, ◌≤◌, [], ◌∷◌, length, get_or, refl, sym, ap, ◌∙◌, cond, Less, Equal, Greater, false, T, Result, Ok, Err, MatchResult, arith}
+use Rattle.std.specs.Prelude.{pos}
 use Rattle.std.proofs.Common.{inl, inr}
 use Rattle.std.specs.declared.cmp.Ordering.{Ordering}
 use Rattle.std.proofs.lemmas.Bool.{cases_lt}
 use Rattle.std.specs.Ordering.{is_eq, is_lt, ordering_reverse}
 use Rattle.std.specs.List.Sorted.{IsBinarySearchResult, IsSortedBy}
 use Rattle.std.proofs.lemmas.List.Sorted.{searchable_from_sorted}
-use Rattle.std.proofs.lemmas.Cmp.{tied_itself}
 use Rattle.lie_poly.specs.Terms.{Exponents, Term, Terms, term, exponents_cmp, is_canonical, coefficient_in}
 use Rattle.lie_poly.specs.Canonical.{above, exponents_total, exact_exponents, rest_above, rest_canonical, left_of, right_of, less_is, first_two, coefficient-first}
 

@@ -1,13 +1,13 @@
 -- Sizes and degrees of the parts of a list of terms.
-use Rattle.std.proofs.Common.{◌≡◌, ℕ, zero, suc, ◌+◌, ◌*◌, ◌≤◌, ◌<◌, ◌^◌, max, List, [], ◌∷◌, ◌++◌, map, length, get_or, drop, take, refl, sym, ap, ap₂, ◌∙◌, subst, arith, T, true, false, ◌&&◌}
-use Rattle.std.specs.Prelude.{ℤ, pos, nat_abs}
+use Rattle.std.proofs.Common.{◌≡◌, ℕ, zero, suc, ◌+◌, ◌≤◌, ◌<◌, max, [], ◌∷◌, ◌++◌, map, length, get_or, drop, take, refl, sym, ap, ap₂, ◌∙◌, arith, T, true, false, ◌&&◌}
+use Rattle.std.specs.Prelude.{nat_abs}
 use Rattle.std.proofs.Common.{Bool}
 use Rattle.std.specs.Ordering.{int_eq}
 use Rattle.std.proofs.lemmas.Bool.{false≢true}
 use Rattle.std.proofs.lemmas.Bool.Decides.{Decides-int_eq}
 use Rattle.std.proofs.lemmas.List.{drop_more, take_more, map-append}
 use lib.Pointwise.{pointwise}
-use Rattle.lie_poly.specs.Terms.{Exponents, Term, Terms, is_canonical, size_of, degree_of}
+use Rattle.lie_poly.specs.Terms.{Term, Terms, is_canonical, size_of, degree_of}
 use Rattle.lie_poly.specs.Canonical.{rest_canonical}
 
 -- the degree of a term
@@ -88,6 +88,7 @@ tests_of_itself : (xs : Terms) → pointwise term_test xs xs ≡ true
 tests_of_itself [] = refl
 tests_of_itself (x ∷ xs) = ap (λ b. b && pointwise term_test xs xs) (test_of_itself x) ∙ tests_of_itself xs
 
+-- equal lists pass it
 pub tests_from_same : (xs ys : Terms) → xs ≡ ys → pointwise term_test xs ys ≡ true
 tests_from_same xs ys e = ap (pointwise term_test xs) (sym e) ∙ tests_of_itself xs
 

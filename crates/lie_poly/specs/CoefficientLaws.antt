@@ -1,16 +1,15 @@
 -- The coefficients of monomials, sums, negatives and products.
-use Rattle.std.proofs.Common.{◌≡◌, ◌≢◌, ℕ, List, [], ◌∷◌, ◌++◌, map, refl, sym, ap, ap₂, ◌∙◌, cond, subst, Bool, true, false, T, arith, inl, inr}
+use Rattle.std.proofs.Common.{◌≡◌, refl, sym, ap, ap₂, ◌∙◌, cond, true, false, arith}
 use Rattle.std.specs.Prelude.{ℤ, pos, ◌+ℤ◌, ◌*ℤ◌, neg_ℤ, ◌⊎◌}
 use Rattle.std.specs.Ordering.{is_eq}
 use Rattle.std.proofs.lemmas.Int.{ints}
 use Rattle.std.proofs.lemmas.Cmp.{tied_itself}
 use mathlib.Core.Logic.{⊎_elim}
-use Rattle.lie_ring.specs.Integers.{integers}
-use Rattle.lie_poly.specs.Terms.{Exponents, Term, Terms, term, exponents_cmp, shift, total_over, products}
+use Rattle.lie_poly.specs.Terms.{Exponents, exponents_cmp, shift, products}
 use Rattle.lie_poly.specs.Canonical.{exponents_total, exact_exponents, eq_is}
-use Rattle.lie_poly.specs.Polynomials.{Polynomial, same_polynomial, coefficient, monomial, plus, negative, product}
+use Rattle.lie_poly.specs.Polynomials.{Polynomial, coefficient, monomial, plus, negative, product}
 use Rattle.lie_poly.specs.LaurentLaws.{delta, total, coefficient-total, same_coefficients, over_add, over_neg, over_mul, over_monomial}
-use Rattle.lie_poly.specs.Laws.{PolynomialsAreCoefficients, IsCoefficientwise, HasOneCoefficient, OperationsAreCoefficientwise}
+use Rattle.lie_poly.specs.Laws.{PolynomialsAreCoefficients, HasOneCoefficient, OperationsAreCoefficientwise}
 
 -- polynomials with the same coefficients are equal
 pub coefficients_determine : PolynomialsAreCoefficients
@@ -24,6 +23,7 @@ at_delta p i j = coefficient-total (i, j) p.terms p.canonical
 delta-here : (e : Exponents) → delta e e ≡ pos 1
 delta-here e = ap (λ o. cond (is_eq o) (pos 1) (pos 0)) (tied_itself exponents_total e)
 
+-- delta is 0 at other exponents
 delta-elsewhere : (d e : Exponents) → (d ≡ e → ⊥) → delta d e ≡ pos 0
 delta-elsewhere d e apart = elim (is_eq (exponents_cmp d e)) as (λ b. is_eq (exponents_cmp d e) ≡ b → cond b (pos 1) (pos 0) ≡ pos 0) [
   | true ↦ λ t. absurd (apart (exact_exponents d e (eq_is (exponents_cmp d e) t)))

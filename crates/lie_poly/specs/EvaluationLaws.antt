@@ -1,5 +1,5 @@
 -- Evaluation is a homomorphism.
-use Rattle.std.proofs.Common.{◌≡◌, ◌≢◌, ℕ, zero, suc, ◌<◌, List, [], ◌∷◌, ◌++◌, refl, sym, ap, ap₂, ◌∙◌, arith}
+use Rattle.std.proofs.Common.{◌≡◌, ℕ, zero, suc, ◌<◌, [], ◌∷◌, ◌++◌, refl, sym, ap, ap₂, ◌∙◌, arith}
 use Rattle.std.specs.Prelude.{ℤ, pos, negsuc, ◌+ℤ◌}
 use Rattle.std.proofs.lemmas.Int.{ints}
 use Rattle.std.proofs.lemmas.Bool.{lt-ltb}
@@ -11,9 +11,9 @@ use Rattle.lie_field.specs.FieldRing.{field_ring, field_is_ring}
 use Rattle.lie_field.specs.Algebra.FieldTest.{is_lawful}
 use Rattle.lie_field.specs.Algebra.Laws.{mul_comm, mul_assoc, mul_one, mul_below}
 use Rattle.lie_field.specs.Algebra.Powers.{one_below, power_below, mul-inv}
-use Rattle.lie_poly.specs.Terms.{Exponents, Terms, term, shift, collect, products, total_over}
+use Rattle.lie_poly.specs.Terms.{Exponents, term, shift, products, total_over}
 use Rattle.lie_poly.specs.Totals.{total-elem, total-append, total-collect, total-products, total-scale}
-use Rattle.lie_poly.specs.Polynomials.{Polynomial, monomial, laurent}
+use Rattle.lie_poly.specs.Polynomials.{monomial, laurent}
 use Rattle.lie_poly.specs.Evaluation.{IsUnit, monomial_at, evaluation}
 
 -- f is multiplicative, as t^i u^j is in the exponents i, j
@@ -94,11 +94,13 @@ module _ (f : FieldData) (d : IsFieldData f) (a : ℕ) (above : 0 < a) (small : 
       ap (λ k. power_int f a (i +ℤ k)) (sym e) ∙ sym (add-step i j) ∙ ap (λ x. mul f x a) h ∙ mul-step i j
       ∙ ap (λ k. mul f (power_int f a i) (power_int f a k)) e
 
+  -- and from j to j - 1
   down : (i j k : ℤ) → j +ℤ pos 1 ≡ k → power_int f a (i +ℤ k) ≡ mul f (power_int f a i) (power_int f a k) → power_int f a (i +ℤ j) ≡ mul f (power_int f a i) (power_int f a j)
   down i j k e h =
       cancel (power_int f a (i +ℤ j)) (mul f (power_int f a i) (power_int f a j)) (power_int-below f d a (i +ℤ j)) (mul_below f d.ring (power_int f a i) (power_int f a j))
       (add-step i j ∙ ap (λ k. power_int f a (i +ℤ k)) e ∙ h ∙ ap (λ k. mul f (power_int f a i) (power_int f a k)) (sym e) ∙ sym (mul-step i j))
 
+  -- a^0 is 1
   power_int-zero : power_int f a (pos 0) ≡ 1
   unfolding power_int power
   power_int-zero = refl
@@ -110,6 +112,7 @@ module _ (f : FieldData) (d : IsFieldData f) (a : ℕ) (above : 0 < a) (small : 
       ap (power_int f a) e ∙ sym (ap (mul f (power_int f a i)) power_int-zero ∙ mul_one f d.ring (power_int f a i) (power_int-below f d a i))
   add-natural i (suc n) = up i (pos n) (pos (suc n)) (let e : pos n +ℤ pos 1 ≡ pos (suc n) = omega (arith, ints) in e) (add-natural i n)
 
+  -- the cases of a negative exponent
   add-negative : (i : ℤ) (n : ℕ) → power_int f a (i +ℤ negsuc n) ≡ mul f (power_int f a i) (power_int f a (negsuc n))
   add-negative i zero = down i (negsuc zero) (pos 0) (let e : negsuc zero +ℤ pos 1 ≡ pos 0 = omega (arith, ints) in e) (add-natural i zero)
   add-negative i (suc n) = down i (negsuc (suc n)) (negsuc n) (let e : negsuc (suc n) +ℤ pos 1 ≡ negsuc n = omega (arith, ints) in e) (add-negative i n)

@@ -1,12 +1,12 @@
 -- The Laurent polynomials are a ring.
-use Rattle.std.proofs.Common.{◌≡◌, ℕ, ◌+◌, ◌*◌, ◌≤◌, max, List, [], ◌∷◌, ◌++◌, map, refl, sym, ap, ap₂, ◌∙◌, cond, subst, Bool, true, false, T, Some, arith, Less, Equal, Greater}
+use Rattle.std.proofs.Common.{◌≡◌, ℕ, ◌+◌, ◌*◌, ◌≤◌, max, [], ◌∷◌, ◌++◌, map, refl, sym, ap, ap₂, ◌∙◌, cond, true, false, T, arith, Less, Equal, Greater}
 use Rattle.std.specs.Prelude.{ℤ, pos, ◌+ℤ◌, ◌*ℤ◌, neg_ℤ, nat_abs}
 use Rattle.std.specs.Ordering.{is_eq, int_eq, match_ordering}
 use Rattle.std.proofs.lemmas.Int.{ints, unsigned_abs-mul}
 use Rattle.std.proofs.lemmas.Bool.{false≢true}
 use Rattle.std.proofs.Math.Nat.{mul-add, add-mul}
 use Rattle.std.proofs.Math.IntN.{+ℤ_idr, +ℤ_comm, +ℤ_assoc, +ℤ_invl, zero-*ℤ}
-use Rattle.lie_ring.specs.Rings.{RingOn, IsCommutativeRing, IsFromIntegers, IsSized, IsRing}
+use Rattle.lie_ring.specs.Rings.{IsCommutativeRing, IsFromIntegers, IsSized, IsRing}
 use Rattle.lie_ring.specs.RingLemmas.{add_mul}
 use Rattle.lie_ring.specs.Integers.{integers}
 use Rattle.lie_ring.specs.IntegerLaws.{integers_ring}
@@ -19,9 +19,11 @@ use Rattle.lie_poly.specs.Polynomials.{Polynomial, same_polynomial, polynomial, 
 abbrev pub delta : Exponents → Exponents → ℤ
 delta e f = cond (is_eq (exponents_cmp e f)) (pos 1) (pos 0)
 
+-- the sum of the c f(e) over the terms of a list, in the integers
 abbrev pub total : (Exponents → ℤ) → Terms → ℤ
 total f xs = total_over integers f xs
 
+-- a coefficient is the sum over delta
 pub coefficient-total : (e : Exponents) (xs : Terms) → T (is_canonical xs) → coefficient_in xs e ≡ total (delta e) xs
 coefficient-total e [] h = refl
 coefficient-total e (x ∷ xs) h =
@@ -46,9 +48,11 @@ same_totals p q same = same_coefficients p q (λ e.
 pub collected : (f : Exponents → ℤ) (xs : Terms) → total f (collect xs) ≡ total f xs
 collected f xs = total-collect integers integers_ring f (λ _. refl) xs
 
+-- the sum over p + q
 pub over_add : (f : Exponents → ℤ) (p q : Polynomial) → total f (plus p q).terms ≡ total f p.terms +ℤ total f q.terms
 over_add f p q = collected f (p.terms ++ q.terms) ∙ total-append integers integers_ring f (λ _. refl) p.terms q.terms
 
+-- the sum over p q is the double sum
 pub over_mul : (f : Exponents → ℤ) (p q : Polynomial) → total f (product p q).terms ≡ total (λ d. total (λ e. f (shift d e)) q.terms) p.terms
 over_mul f p q = collected f (products p.terms q.terms) ∙ total-products integers integers_ring f p.terms q.terms (λ _. refl)
 
@@ -56,36 +60,45 @@ over_mul f p q = collected f (products p.terms q.terms) ∙ total-products integ
 pub over_monomial : (f : Exponents → ℤ) (c i j : ℤ) → total f (monomial c i j).terms ≡ (c *ℤ f (i, j)) +ℤ pos 0
 over_monomial f c i j = collected f (term (i, j) c ∷ [])
 
+-- the sum over an integer
 over_constant : (f : Exponents → ℤ) (c : ℤ) → total f (constant c).terms ≡ (c *ℤ f (pos 0, pos 0)) +ℤ pos 0
 over_constant f c = over_monomial f c (pos 0) (pos 0)
 
+-- (-a) b = -(a b)
 neg_product : (a b : ℤ) → neg_ℤ a *ℤ b ≡ neg_ℤ (a *ℤ b)
 neg_product a b =
     let split = add_mul integers integers_ring.laws (neg_ℤ a) a b refl refl refl in
     let none : (neg_ℤ a +ℤ a) *ℤ b ≡ pos 0 = ap (λ z. z *ℤ b) (+ℤ_invl a) ∙ zero-*ℤ b in
     omega (arith, ints, split, none)
 
+-- the sum over negatives
 negated : (f : Exponents → ℤ) (xs : Terms) → total f (map (λ x. term x.exponents (neg_ℤ x.coefficient)) xs) ≡ neg_ℤ (total f xs)
 negated f [] = refl
 negated f (x ∷ xs) =
     let turned : neg_ℤ x.coefficient *ℤ f x.exponents ≡ neg_ℤ (x.coefficient *ℤ f x.exponents) = neg_product x.coefficient (f x.exponents) in
     omega (arith, ints, negated f xs, turned)
 
+-- the sum over -p
 pub over_neg : (f : Exponents → ℤ) (p : Polynomial) → total f (negative p).terms ≡ neg_ℤ (total f p.terms)
 over_neg f p = collected f (map (λ x. term x.exponents (neg_ℤ x.coefficient)) p.terms) ∙ negated f p.terms
 
+-- equal functions have equal sums
 alike : (f g : Exponents → ℤ) (xs : Terms) → ((e : Exponents) → f e ≡ g e) → total f xs ≡ total g xs
 alike f g xs h = λ i. total (λ e. h e i) xs
 
+-- adding no exponents
 shift_zero : (d : Exponents) → shift d (pos 0, pos 0) ≡ d
 shift_zero d = λ i. (+ℤ_idr d.0 i, +ℤ_idr d.1 i)
 
+-- exponents add in any order
 shift_comm : (d e : Exponents) → shift d e ≡ shift e d
 shift_comm d e = λ i. (+ℤ_comm d.0 e.0 i, +ℤ_comm d.1 e.1 i)
 
+-- and in any grouping
 shift_assoc : (d e f : Exponents) → shift (shift d e) f ≡ shift d (shift e f)
 shift_assoc d e f = λ i. (+ℤ_assoc d.0 e.0 f.0 i, +ℤ_assoc d.1 e.1 f.1 i)
 
+-- the laws of a commutative ring with one
 laurent_commutative : IsCommutativeRing laurent
 laurent_commutative = record {
   zero_elem = refl;
@@ -118,6 +131,7 @@ laurent_commutative = record {
       ∙ sym (over_add f (product p q) (product p r) ∙ ap₂ ◌+ℤ◌ (over_mul f p q) (over_mul f p r)));
 }
 
+-- `constant` is the homomorphism from the integers
 laurent_integers : IsFromIntegers laurent
 laurent_integers = record {
   int_elem = λ _. refl;
@@ -135,6 +149,7 @@ laurent_integers = record {
 size-keep : (x : Term) (xs : Terms) → size_of (keep x xs) ≤ nat_abs x.coefficient + size_of xs
 size-keep x xs = elim (int_eq x.coefficient (pos 0)) as (λ b. size_of (cond b xs (x ∷ xs)) ≤ nat_abs x.coefficient + size_of xs) [ true ↦ omega arith | false ↦ omega arith ]
 
+-- the size where a term is added
 size-plus : (x : Term) (ys : Terms) → size_of (plus_term x ys) ≤ nat_abs x.coefficient + size_of ys
 size-plus x [] = size-keep x []
 size-plus x (y ∷ ys) = elim (exponents_cmp x.exponents y.exponents) as (λ o. size_of (match_ordering o (keep x (y ∷ ys)) (keep (term y.exponents (x.coefficient +ℤ y.coefficient)) ys) (y ∷ plus_term x ys)) ≤ nat_abs x.coefficient + size_of (y ∷ ys)) [
@@ -143,22 +158,27 @@ size-plus x (y ∷ ys) = elim (exponents_cmp x.exponents y.exponents) as (λ o. 
   | Greater ↦ omega (arith, size-plus x ys)
 ]
 
+-- the size of the canonical list
 pub size-collect : (xs : Terms) → size_of (collect xs) ≤ size_of xs
 size-collect [] = omega arith
 size-collect (x ∷ xs) = omega (arith, size-plus x (collect xs), size-collect xs)
 
+-- the size of two lists
 size-append : (xs ys : Terms) → size_of (xs ++ ys) ≡ size_of xs + size_of ys
 size-append [] ys = omega arith
 size-append (x ∷ xs) ys = omega (arith, size-append xs ys)
 
+-- the size of multiples
 size-times : (x : Term) (ys : Terms) → size_of (times x ys) ≡ nat_abs x.coefficient * size_of ys
 size-times x [] = omega arith
 size-times x (y ∷ ys) = omega (arith, size-times x ys, unsigned_abs-mul x.coefficient y.coefficient, mul-add (nat_abs x.coefficient) (nat_abs y.coefficient) (size_of ys))
 
+-- the size of products
 pub size-products : (xs ys : Terms) → size_of (products xs ys) ≡ size_of xs * size_of ys
 size-products [] ys = omega arith
 size-products (x ∷ xs) ys = omega (arith, size-append (times x ys) (products xs ys), size-times x ys, size-products xs ys, add-mul (nat_abs x.coefficient) (size_of xs) (size_of ys))
 
+-- the size of negatives
 size-negated : (xs : Terms) → size_of (map (λ x. term x.exponents (neg_ℤ x.coefficient)) xs) ≡ size_of xs
 size-negated [] = refl
 size-negated (x ∷ xs) = omega (arith, ints, size-negated xs)
@@ -167,9 +187,11 @@ size-negated (x ∷ xs) = omega (arith, ints, size-negated xs)
 abbrev degree_at : Exponents → ℕ
 degree_at e = max (nat_abs e.0) (nat_abs e.1)
 
+-- the degree where a term is kept
 degree-keep : (x : Term) (xs : Terms) → degree_of (keep x xs) ≤ max (degree_at x.exponents) (degree_of xs)
 degree-keep x xs = elim (int_eq x.coefficient (pos 0)) as (λ b. degree_of (cond b xs (x ∷ xs)) ≤ max (degree_at x.exponents) (degree_of xs)) [ true ↦ omega arith | false ↦ omega arith ]
 
+-- the degree where a term is added
 degree-plus : (x : Term) (ys : Terms) → degree_of (plus_term x ys) ≤ max (degree_at x.exponents) (degree_of ys)
 degree-plus x [] = degree-keep x []
 degree-plus x (y ∷ ys) = elim (exponents_cmp x.exponents y.exponents) as (λ o. degree_of (match_ordering o (keep x (y ∷ ys)) (keep (term y.exponents (x.coefficient +ℤ y.coefficient)) ys) (y ∷ plus_term x ys)) ≤ max (degree_at x.exponents) (degree_of (y ∷ ys))) [
@@ -178,38 +200,48 @@ degree-plus x (y ∷ ys) = elim (exponents_cmp x.exponents y.exponents) as (λ o
   | Greater ↦ omega (arith, degree-plus x ys)
 ]
 
+-- the degree of the canonical list
 pub degree-collect : (xs : Terms) → degree_of (collect xs) ≤ degree_of xs
 degree-collect [] = omega arith
 degree-collect (x ∷ xs) = omega (arith, degree-plus x (collect xs), degree-collect xs)
 
+-- the degree of two lists
 degree-append : (xs ys : Terms) → degree_of (xs ++ ys) ≤ max (degree_of xs) (degree_of ys)
 degree-append [] ys = omega arith
 degree-append (x ∷ xs) ys = omega (arith, degree-append xs ys)
 
+-- the triangle inequality
 abs-sum : (a b : ℤ) → nat_abs (a +ℤ b) ≤ nat_abs a + nat_abs b
 abs-sum a b = omega (arith, ints)
 
+-- the degree of multiples
 degree-times : (x : Term) (ys : Terms) → degree_of (times x ys) ≤ degree_at x.exponents + degree_of ys
 degree-times x [] = omega arith
 degree-times x (y ∷ ys) = omega (arith, degree-times x ys, abs-sum x.exponents.0 y.exponents.0, abs-sum x.exponents.1 y.exponents.1)
 
+-- the degree of products
 degree-products : (xs ys : Terms) → degree_of (products xs ys) ≤ degree_of xs + degree_of ys
 degree-products [] ys = omega arith
 degree-products (x ∷ xs) ys = omega (arith, degree-append (times x ys) (products xs ys), degree-times x ys, degree-products xs ys)
 
+-- the degree of negatives
 degree-negated : (xs : Terms) → degree_of (map (λ x. term x.exponents (neg_ℤ x.coefficient)) xs) ≡ degree_of xs
 degree-negated [] = refl
 degree-negated (x ∷ xs) = omega (arith, degree-negated xs)
 
+-- -(-p) = p
 neg_neg : (p : Polynomial) → negative (negative p) ≡ p
 neg_neg p = same_totals (negative (negative p)) p (λ f. omega (arith, ints, over_neg f (negative p), over_neg f p))
 
+-- the size of -p
 size-neg_le : (p : Polynomial) → size (negative p) ≤ size p
 size-neg_le p = omega (arith, size-collect (map (λ x. term x.exponents (neg_ℤ x.coefficient)) p.terms), size-negated p.terms)
 
+-- the degree of -p
 degree-neg_le : (p : Polynomial) → degree (negative p) ≤ degree p
 degree-neg_le p = omega (arith, degree-collect (map (λ x. term x.exponents (neg_ℤ x.coefficient)) p.terms), degree-negated p.terms)
 
+-- sizes and degrees bound those of sums and products
 laurent_sized : IsSized laurent
 laurent_sized = record {
   size_zero = refl;
@@ -228,5 +260,6 @@ laurent_sized = record {
   roomy_degree = λ r. absurd (false≢true r);
 }
 
+-- the Laurent polynomials are a ring
 pub laurent_ring : IsRing laurent
 laurent_ring = record { laws = laurent_commutative; integers = laurent_integers; sized = laurent_sized }

@@ -6,7 +6,7 @@
 --   c t^i u^j          monomial c i j
 --   p + q, -p, p q     plus, negative, product
 --   Z[t^±1, u^±1]      laurent              sizes are sums of absolute coefficients, degrees greatest absolute exponents
-use Rattle.std.specs.Prelude.{◌≡◌, ℕ, ℤ, pos, neg_ℤ, true, false, T, List, [], ◌∷◌, ◌++◌, map}
+use Rattle.std.specs.Prelude.{◌≡◌, ℕ, ℤ, pos, neg_ℤ, true, false, T, [], ◌∷◌, ◌++◌, map}
 use Rattle.std.specs.Coded.{Coded, coded_ℤ, coded×, coded_list}
 use base.Stored.{coded_via}
 use lib.Dec.{T_prop}

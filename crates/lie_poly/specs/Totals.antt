@@ -1,27 +1,30 @@
 -- Sums over terms, in a ring.
-use Rattle.std.proofs.Common.{◌≡◌, ℕ, List, [], ◌∷◌, ◌++◌, refl, sym, ap, ap₂, ◌∙◌, cond, subst, Less, Equal, Greater}
-use Rattle.std.specs.Prelude.{ℤ, pos, ◌+ℤ◌, ◌*ℤ◌, Bool, true, false, map}
+use Rattle.std.proofs.Common.{◌≡◌, [], ◌∷◌, ◌++◌, refl, sym, ap, ap₂, ◌∙◌, cond, Less, Equal, Greater}
+use Rattle.std.specs.Prelude.{pos, ◌+ℤ◌, true, false}
 use Rattle.std.specs.Ordering.{int_eq, match_ordering}
 use Rattle.lie_poly.specs.Canonical.{exact_exponents, zero_is}
-use Rattle.std.specs.Ordering.{int_cmp}
 use Rattle.lie_ring.specs.Rings.{RingOn, IsElem, IsRing}
 use Rattle.lie_ring.specs.RingLemmas.{zero_add, zero_mul, mul_zero, add_mul, add_middle, add_swap, int_zero}
 use Rattle.lie_poly.specs.Terms.{Exponents, Term, Terms, term, exponents_cmp, shift, keep, plus_term, collect, times, products, total_over}
 
 module _ {A : Type 0} (R : RingOn A) (ring : IsRing R) (f : Exponents → A) (elem : (e : Exponents) → IsElem R (f e)) where
+  -- the value of a term is an element
   one_elem : (x : Term) → IsElem R (R.mul (R.of_int x.coefficient) (f x.exponents))
   one_elem x = ring.laws.mul_elem (R.of_int x.coefficient) (f x.exponents) (ring.integers.int_elem x.coefficient) (elem x.exponents)
 
+  -- a sum is an element
   pub total-elem : (xs : Terms) → IsElem R (total_over R f xs)
   total-elem [] = ring.laws.zero_elem
   total-elem (x ∷ xs) = ring.laws.add_elem (R.mul (R.of_int x.coefficient) (f x.exponents)) (total_over R f xs) (one_elem x) (total-elem xs)
 
+  -- the sum over two lists
   pub total-append : (xs ys : Terms) → total_over R f (xs ++ ys) ≡ R.add (total_over R f xs) (total_over R f ys)
   total-append [] ys = sym (zero_add R ring.laws (total_over R f ys) (total-elem ys))
   total-append (x ∷ xs) ys =
       ap (R.add (R.mul (R.of_int x.coefficient) (f x.exponents))) (total-append xs ys)
       ∙ sym (ring.laws.add_assoc (R.mul (R.of_int x.coefficient) (f x.exponents)) (total_over R f xs) (total_over R f ys) (one_elem x) (total-elem xs) (total-elem ys))
 
+  -- the sum where a term is kept
   total-keep : (x : Term) (xs : Terms) → total_over R f (keep x xs) ≡ R.add (R.mul (R.of_int x.coefficient) (f x.exponents)) (total_over R f xs)
   total-keep x xs = elim (int_eq x.coefficient (pos 0)) as (λ b. int_eq x.coefficient (pos 0) ≡ b → total_over R f (cond b xs (x ∷ xs)) ≡ R.add (R.mul (R.of_int x.coefficient) (f x.exponents)) (total_over R f xs)) [
     | true ↦ λ is. sym (ap (λ z. R.add (R.mul z (f x.exponents)) (total_over R f xs)) (ap R.of_int (zero_is x.coefficient is) ∙ int_zero R ring)
@@ -30,6 +33,7 @@ module _ {A : Type 0} (R : RingOn A) (ring : IsRing R) (f : Exponents → A) (el
     | false ↦ λ _. refl
   ] refl
 
+  -- the sum where a term is added
   pub total-plus_term : (x : Term) (ys : Terms) → total_over R f (plus_term x ys) ≡ R.add (R.mul (R.of_int x.coefficient) (f x.exponents)) (total_over R f ys)
   total-plus_term x [] = total-keep x []
   total-plus_term x (y ∷ ys) =
@@ -78,6 +82,7 @@ module _ {A : Type 0} (R : RingOn A) (ring : IsRing R) where
       ap₂ R.add (ring.laws.mul_add n (f x.exponents) (g x.exponents) i (p x.exponents) (q x.exponents)) (total-add f g xs p q)
       ∙ add_middle R ring.laws (R.mul n (f x.exponents)) (R.mul n (g x.exponents)) (total_over R f xs) (total_over R g xs) (one_elem R ring f p x) (one_elem R ring g q x) (total-elem R ring f p xs) (total-elem R ring g q xs)
 
+  -- the sum of zeros
   pub total-zero : (xs : Terms) → total_over R (λ _. R.zero) xs ≡ R.zero
   total-zero [] = refl
   total-zero (x ∷ xs) = ap₂ R.add (mul_zero R ring.laws (R.of_int x.coefficient) (ring.integers.int_elem x.coefficient)) (total-zero xs) ∙ ring.laws.add_zero R.zero ring.laws.zero_elem
@@ -91,6 +96,7 @@ module _ {A : Type 0} (R : RingOn A) (ring : IsRing R) where
       ap₂ R.add (sym (total-scale n (f x.exponents) ys i (p x.exponents))) (total-swap f xs ys p)
       ∙ sym (total-add (λ e. R.mul n (f x.exponents e)) (λ e. total_over R (λ d. f d e) xs) ys (λ e. ring.laws.mul_elem n (f x.exponents e) i (p x.exponents e)) (λ e. total-elem R ring (λ d. f d e) (λ d. p d e) xs))
 
+  -- the sum over multiples
   total-times : (f : Exponents → A) (x : Term) (ys : Terms) → ((e : Exponents) → IsElem R (f e)) → total_over R f (times x ys) ≡ R.mul (R.of_int x.coefficient) (total_over R (λ e. f (shift x.exponents e)) ys)
   total-times f x [] p = sym (mul_zero R ring.laws (R.of_int x.coefficient) (ring.integers.int_elem x.coefficient))
   total-times f x (y ∷ ys) p =

@@ -30,3 +30,6 @@ pub use laws::{
     polynomials_are_coefficients,
 };
 pub use poly::Poly;
+
+#[cfg(test)]
+mod tests;

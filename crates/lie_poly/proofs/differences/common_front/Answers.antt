@@ -1,4 +1,4 @@
-use Rattle.std.proofs.Common.{◌≡◌, ◌++◌, [], ◌∷◌, take, get_or, sym, ap₂, ◌∙◌, arith, List}
+use Rattle.std.proofs.Common.{◌++◌, [], ◌∷◌, get_or, sym, ap₂, ◌∙◌, arith}
 use Rattle.std.specs.Prelude.{pos}
 use Rattle.std.proofs.lemmas.Bool.{false≢true}
 use Rattle.std.proofs.lemmas.List.{take_more, get_or_default}

@@ -1,9 +1,9 @@
-use Rattle.std.proofs.Common.{◌≡◌, ◌≢◌, get_or, subst, sym, ap, ap₂, ◌∙◌, rules, SFits, to_z, of_z}
-use Rattle.std.specs.Prelude.{ℤ, pos}
+use Rattle.std.proofs.Common.{get_or, subst, sym, ap, ap₂, ◌∙◌, rules, SFits, to_z, of_z}
+use Rattle.std.specs.Prelude.{pos}
 use Rattle.std.specs.Ordering.{ordering_reverse}
 use Rattle.std.specs.Int.{w128}
 use Rattle.std.proofs.lemmas.Int.{to_z-of_z}
-use Rattle.lie_poly.specs.Terms.{Exponents, Term, term, exponents_cmp}
+use Rattle.lie_poly.specs.Terms.{Term, term, exponents_cmp}
 use Rattle.lie_poly.specs.Canonical.{exponents_total}
 use Rattle.lie_poly.specs.Differences.{IsFirstDifference, coefficients_of}
 use Rattle.lie_poly.proofs.DifferenceLemmas.{difference-turned, first-less, first-equal, past-end, past-next, answer-first, answer-second}

@@ -1,6 +1,6 @@
-use Rattle.std.proofs.Common.{rules, length, ◌<◌, ◌≡◌, ◌++◌, [], ◌∷◌, subst, sym, ap, ap₂, ◌∙◌, arith, T}
+use Rattle.std.proofs.Common.{rules, length, ◌<◌, ◌≡◌, ◌++◌, subst, sym, ap, ap₂, ◌∙◌, arith, T}
 use Rattle.std.specs.Prelude.{pos, IfOk}
-use Rattle.lie_poly.specs.Terms.{Terms, term, is_canonical, size_of, collect, times, products}
+use Rattle.lie_poly.specs.Terms.{Terms, term, is_canonical, size_of, collect, products}
 use Rattle.lie_poly.specs.Canonical.{canonical-collect}
 use Rattle.lie_poly.proofs.TermLemmas.{only_term}
 use Rattle.lie_poly.proofs.ProductLemmas.{collect-times, collect-products, halves}

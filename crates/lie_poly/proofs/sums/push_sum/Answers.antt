@@ -1,5 +1,5 @@
-use Rattle.std.proofs.Common.{◌≡◌, ◌+◌, ◌<◌, ◌^◌, ◌++◌, [], subst, arith, to_z, of_z}
-use Rattle.std.specs.Prelude.{◌+ℤ◌, nat_abs, OnOk}
+use Rattle.std.proofs.Common.{◌≡◌, ◌+◌, ◌++◌, [], subst, arith, to_z, of_z}
+use Rattle.std.specs.Prelude.{◌+ℤ◌, OnOk}
 use Rattle.std.specs.Int.{w128}
 use Rattle.std.proofs.lemmas.Int.{ints}
 use Rattle.lie_poly.specs.Terms.{term, keep}

@@ -1,4 +1,4 @@
-use Rattle.std.proofs.Common.{◌≡◌, ◌++◌, sym, ap, ap₂, subst, ◌∙◌, T, refl, arith}
+use Rattle.std.proofs.Common.{◌++◌, sym, ap, ap₂, subst, ◌∙◌, T, refl, arith}
 use Rattle.lie_poly.specs.Terms.{Terms, is_canonical, collect, size_of}
 use Rattle.lie_poly.specs.Canonical.{canonical-collect}
 use Rattle.lie_poly.specs.Polynomials.{Polynomial, plus, same_polynomial}

@@ -1,4 +1,4 @@
-use Rattle.std.proofs.Common.{◌≡◌, ◌++◌, ◌*◌, ◌<◌, ◌^◌, inl, inr, sym, ap, ap₂, subst, ◌∙◌, T, refl, arith}
+use Rattle.std.proofs.Common.{◌*◌, ◌<◌, ◌^◌, inl, inr, sym, ap, ap₂, subst, ◌∙◌, T, refl, arith}
 use Rattle.std.proofs.lemmas.Bool.{cases_lt, false≢true}
 use Rattle.lie_poly.specs.Terms.{Terms, is_canonical, collect, products, size_of}
 use Rattle.lie_poly.specs.Canonical.{canonical-collect}

@@ -1,4 +1,4 @@
-use Rattle.std.proofs.Common.{◌≡◌, map, sym, ap, subst, ◌∙◌, T, refl, arith}
+use Rattle.std.proofs.Common.{map, sym, ap, subst, ◌∙◌, T, refl, arith}
 use Rattle.lie_poly.specs.Terms.{is_canonical, size_of}
 use Rattle.lie_poly.specs.Polynomials.{Polynomial, negative, same_polynomial}
 use Rattle.lie_poly.specs.LaurentLaws.{laurent_ring}

@@ -1,7 +1,7 @@
 use Rattle.std.proofs.Common.{◌≡◌, ◌++◌, [], ap, ◌∙◌, to_z, of_z, w32}
 use Rattle.std.specs.Int.{w128}
 use Rattle.std.proofs.lemmas.Int.{to_z-of_z}
-use Rattle.lie_poly.specs.Terms.{Term, Terms, term, keep}
+use Rattle.lie_poly.specs.Terms.{Terms, term, keep}
 use Rattle.lie_poly.specs.Polynomials.{monomial, same_polynomial}
 use Rattle.lie_poly.proofs.poly.Poly.term.Goals as goal
 
