@@ -7,6 +7,7 @@ ghost use Rattle.lie_poly.specs.Polynomials.{laurent};
 
 use crate::{Evaluate, Laurent, Poly};
 use lie_field::{Fe, Field, FieldFault};
+use lie_mat::Mat;
 use lie_ring::{Hom, Ring, RingStop};
 use std::alloc::Global;
 use std::process::Abort;
@@ -81,6 +82,19 @@ fn values_over_five(rt: HostRuntime) -> Result<(), Fail> {
     let evaluate = Evaluate::new(&Laurent, &field, t, u);
     assert_eq!(rt; evaluate.image(alloc, &product)?.number(), 3);
     assert_eq!(rt; (evaluate.src(), evaluate.dst().q()), (&Laurent, 5));
+    Ok(())
+}
+
+#[test]
+fn image_of_matrix(rt: HostRuntime) -> Result<(), Fail> {
+    let alloc = rt.alloc();
+    let product = worked(alloc)?;
+    let field = five(alloc)?;
+    let (t, u) = (element(&rt, &field, 3), element(&rt, &field, 1));
+    let mut matrix = Mat::zero(alloc, 1, 1)?;
+    matrix.set(&Laurent, 0, 0, product)?;
+    let image = matrix.map(alloc, &Evaluate::new(&Laurent, &field, t, u))?;
+    assert!(rt; matches!(image.get(0, 0), Some(e) if e.number() == 3));
     Ok(())
 }
 
