@@ -1,0 +1,5 @@
+pub mod WeightLemmas
+pub mod ArithmeticLemmas
+pub mod FallLemmas
+pub mod LowersOnce
+pub mod SmallSums

@@ -1,0 +1,30 @@
+-- A weight lowers to one weight.
+use Rattle.std.proofs.Common.{◌≡◌, ◌<◌, ℤ, pos, ◌+ℤ◌, ◌*ℤ◌, ◌≤ℤ◌, length, refl, sym, ap, subst, ◌∙◌, arith, ⊎_elim}
+use Rattle.std.proofs.lemmas.Int.{ints}
+use Rattle.lie_datum.specs.Vectors.{Vector}
+use Rattle.lie_datum.specs.RootList.{Roots}
+use Rattle.lie_datum.specs.Numbers.{place}
+use Rattle.lie_datum.proofs.Entries.{within_or_past}
+use Rattle.lie_datum.proofs.NumberLemmas.{place_within}
+use Rattle.lie_datum.proofs.SignedRoots.{same_place}
+use Rattle.lie_orbit.specs.Lowering.{coroot_pairing, IsHalf, IsFirstHigh, less_root, Lowers, low, step}
+use Rattle.lie_orbit.specs.Laws.{LowersOneWay}
+
+one_half : (m a b : ℤ) → IsHalf m a → IsHalf m b → a ≡ b
+one_half m a b p q = let x = p.0 in let y = p.1 in let z = q.0 in let w = q.1 in omega (arith, ints, x, y, z, w)
+
+one_high : (d : Roots) (x : Vector) (r s : ℤ) → IsFirstHigh d x r → IsFirstHigh d x s → r ≡ s
+one_high d x r s a b =
+    let m = length d.positive in
+    same_place m r s (place_within d r a.number) (place_within d s b.number)
+    (⊎_elim (λ l. absurd (b.before r a.number l a.high))
+    (λ l. ⊎_elim (λ k. absurd (a.before s b.number k b.high)) (λ k. omega (arith, l, k)) (within_or_past (place m s) (place m r))) (within_or_past (place m r) (place m s)))
+
+pub lowers_once : LowersOneWay
+lowers_once d x _ _ (low _ l) (low _ k) = refl
+lowers_once d x _ z (low _ l) (step _ _ r c h e p) = absurd (l r h.number h.high)
+lowers_once d x y _ (step _ _ r c h e p) (low _ l) = absurd (l r h.number h.high)
+lowers_once d x y z (step _ _ r c h e p) (step _ _ s b k f q) =
+    let same = one_high d x s r k h in
+    let half = one_half (coroot_pairing d x r) b c (subst (λ t. IsHalf (coroot_pairing d x t) b) same f) e in
+    lowers_once d (less_root d x c r) y z p (subst (λ t. Lowers d t z) (ap (λ t. less_root d x b t) same ∙ ap (λ t. less_root d x t r) half) q)

@@ -1,0 +1,26 @@
+-- What follows from the definitions of lowering and of roots alone.
+-- Source: any text on root systems, as that of Humphreys on Lie algebras, for sums of roots.
+use Rattle.std.specs.Prelude.{◌≡◌, ℕ, pos, List, [], ◌∷◌}
+use Rattle.std.specs.List.{Contains}
+use Rattle.lie_datum.specs.Vectors.{Vector, plus, entry}
+use Rattle.lie_datum.specs.declared.root_pair.Root.{Root}
+use Rattle.lie_datum.specs.RootDatum.{Base, vector, IsRoot}
+use Rattle.lie_datum.specs.RootList.{Roots, IsLoaded}
+use Rattle.lie_orbit.specs.Lowering.{HasSmallPairings, Lowers}
+
+-- a weight lowers to one weight
+abbrev pub LowersOneWay : Type 0
+LowersOneWay = (d : Roots) (x y z : Vector) → Lowers d x y → Lowers d x z → y ≡ z
+
+-- the sum of the vectors of these roots
+abbrev pub root_sum : Base → List Root → Vector
+root_sum b [] = []
+root_sum b (r ∷ rs) = plus (vector b r) (root_sum b rs)
+
+-- all entries are 0
+abbrev pub IsZero : Vector → Type 0
+IsZero x = (k : ℕ) → entry x k ≡ pos 0
+
+-- a sum of roots that pairs with each coroot to -1, 0 or 1 is 0
+abbrev pub SmallSumsVanish : Type 0
+SmallSumsVanish = (d : Roots) (rs : List Root) → IsLoaded d → ((r : Root) → Contains rs r → IsRoot d.base r) → HasSmallPairings d (root_sum d.base rs) → IsZero (root_sum d.base rs)
