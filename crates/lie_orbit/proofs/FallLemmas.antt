@@ -1,10 +1,10 @@
 -- How the sum of the squares of the pairings with all coroots falls when a weight is lowered.
 use Rattle.std.proofs.Common.{◌≡◌, ℕ, zero, suc, ◌+◌, ◌*◌, ◌^◌, ◌<◌, ◌≤◌, ℤ, pos, negsuc, neg_ℤ, ◌+ℤ◌, ◌*ℤ◌, ◌≤ℤ◌, List, [], ◌∷◌, length, refl, sym, ap, subst, ◌∙◌, arith, unsigned_abs, ⊎_elim}
 use Rattle.std.proofs.lemmas.Int.{ints}
-use Rattle.std.proofs.Math.Nat.{mul-le-mul_left, mul-le-mul_right}
+use Rattle.std.proofs.Math.Nat.{mul-le-mul_left}
 use Rattle.lie_base.proofs.RingSolver.{ring, var, neg, ◌⊕◌, ◌⊗◌}
 use Rattle.lie_base.proofs.Members.{In, here, there}
-use Rattle.lie_datum.specs.Vectors.{Vector, pairing, plus, times, total, entry}
+use Rattle.lie_datum.specs.Vectors.{Vector, pairing, times, total, entry}
 use Rattle.lie_datum.specs.declared.root_pair.Root.{Root}
 use Rattle.lie_datum.specs.RootDatum.{covector, vector, IsRoot, IsWithin}
 use Rattle.lie_datum.specs.RootList.{Roots, root_of, IsNumber, IsLoaded, all_roots, form, length2}

@@ -1,19 +1,19 @@
 -- A sum of roots that pairs with each coroot to at most 1 is 0: a shortest list with that sum has no two members with a
 -- negative form, so the form of the sum is at least the sum of the squares of lengths, and at most half of it.
-use Rattle.std.proofs.Common.{◌≡◌, ◌≢◌, ℕ, zero, suc, ◌≤◌, ℤ, pos, negsuc, neg_ℤ, ◌+ℤ◌, ◌*ℤ◌, ◌≤ℤ◌, ◌<ℤ◌, List, [], ◌∷◌, length, map, refl, sym, ap, subst, ◌∙◌, arith, ◌⊎◌, inl, inr, ⊎_elim, unsigned_abs}
-use Rattle.std.proofs.lemmas.Int.{ints, by_lt_z}
+use Rattle.std.proofs.Common.{◌≡◌, ◌≢◌, ℕ, zero, suc, ◌≤◌, ℤ, pos, negsuc, ◌+ℤ◌, ◌*ℤ◌, ◌≤ℤ◌, ◌<ℤ◌, List, [], ◌∷◌, length, map, refl, sym, ap, subst, ◌∙◌, arith, ◌⊎◌, inl, inr, ⊎_elim, unsigned_abs}
+use Rattle.std.proofs.lemmas.Int.{ints}
 use Rattle.std.proofs.Math.IntN.{zero-*ℤ, *ℤ-zero}
 use Rattle.std.specs.List.{Contains}
 use Rattle.lie_base.proofs.RingSolver.{ring, var, neg, ◌⊗◌}
 use Rattle.lie_base.proofs.Members.{In, here, there}
-use Rattle.lie_datum.specs.Vectors.{Vector, pairing, plus, times, combination, total, entry}
+use Rattle.lie_datum.specs.Vectors.{Vector, pairing, plus, times, total, entry}
 use Rattle.lie_datum.specs.declared.root_pair.Root.{Root}
 use Rattle.lie_datum.specs.RootDatum.{IsRoot, vector, covector, opposite, root_pairing}
 use Rattle.lie_datum.specs.RootList.{Roots, IsLoaded, all_roots, form, length2}
-use Rattle.lie_datum.proofs.Entries.{entry-plus, entry-times}
+use Rattle.lie_datum.proofs.Entries.{entry-plus}
 use Rattle.lie_datum.proofs.Linear.{pairing-plus, pairing-times}
 use Rattle.lie_datum.proofs.VectorLemmas.{entry-combination}
-use Rattle.lie_datum.proofs.FirstLaw.{form_comm, form_linear, form_same}
+use Rattle.lie_datum.proofs.FirstLaw.{form_comm, form_linear}
 use Rattle.lie_datum.proofs.NormBound.{same_or_not, product_positive, length_positive}
 use Rattle.lie_datum.proofs.ClosureLemmas.{contains_from_in}
 use Rattle.lie_datum.proofs.LoadedLaws.{first, second}

@@ -1,22 +1,16 @@
 -- The sizes of roots and coroots, and the first root of a kind.
-use Rattle.std.proofs.Common.{◌≡◌, ℕ, zero, suc, ◌+◌, ◌-◌, ◌*◌, ◌<◌, ◌≤◌, ℤ, pos, neg_ℤ, ◌*ℤ◌, List, [], ◌∷◌, map, length, get_or, refl, sym, ap, subst, ◌∙◌, arith, unsigned_abs, ⊎_elim}
-use Rattle.std.specs.Option.{unwrap_or, IsSome}
+use Rattle.std.proofs.Common.{◌≡◌, ℕ, zero, suc, ◌+◌, ◌*◌, ◌<◌, ◌≤◌, ℤ, pos, ◌*ℤ◌, List, [], ◌∷◌, map, length, get_or, refl, sym, ap, subst, arith, unsigned_abs, ⊎_elim}
 use Rattle.std.specs.List.{All}
 use Rattle.std.proofs.lemmas.List.{get_or_default}
-use Rattle.std.proofs.lemmas.Bool.Decides.{nat_tests}
-use Rattle.std.proofs.lemmas.Int.{ints}
-use Rattle.lie_datum.specs.Vectors.{Vector, pairing, plus, times, combination, unit, entry}
+use Rattle.lie_datum.specs.Vectors.{Vector, pairing, combination, entry}
 use Rattle.lie_datum.specs.Numbers.{place, number_at}
-use Rattle.lie_datum.specs.RootDatum.{simple, simple_root, simple_coroot, vector, covector, reflected, is_reflected, IsSimpleIndex, IsWithin}
+use Rattle.lie_datum.specs.RootDatum.{vector, covector, IsWithin}
 use Rattle.lie_datum.specs.RootList.{Roots, root_of, IsNumber, IsLoaded}
-use Rattle.lie_datum.proofs.Entries.{within_or_past, same_entries, length-unit}
-use Rattle.lie_datum.proofs.NumberLemmas.{within, numbered_at, place_within}
-use Rattle.lie_datum.proofs.SignedRoots.{root_is, number_is, same_place}
+use Rattle.lie_datum.proofs.Entries.{within_or_past}
+use Rattle.lie_datum.proofs.NumberLemmas.{numbered_at, place_within}
+use Rattle.lie_datum.proofs.SignedRoots.{root_is, same_place}
 use Rattle.lie_datum.proofs.LoadedLaws.{short}
-use Rattle.lie_datum.proofs.SimplesFirst.{simples_first_holds}
-use Rattle.lie_datum.proofs.Reflections.{reflection_moves, pairing-unit}
-use Rattle.lie_datum.proofs.Roots.{simple_covector}
-use Rattle.lie_datum.proofs.VectorLemmas.{entry-combination, entry_within, abs_add, abs_mul, column_entry, vector_within, length-combination}
+use Rattle.lie_datum.proofs.VectorLemmas.{entry-combination, entry_within, abs_add, abs_mul, column_entry, vector_within}
 use Rattle.lie_orbit.specs.Lowering.{IsHighRoot, IsFirstHigh}
 
 -- ---- bounds

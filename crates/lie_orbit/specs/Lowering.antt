@@ -7,7 +7,7 @@
 --   floor(m / 2)     IsHalf m c                  c is that number
 --   x - c r          less_root d x c r
 --   x lowers to y    Lowers d x y                no root pairs with y to 2 or more, and the steps lead from x to it
-use Rattle.std.specs.Prelude.{◌≡◌, ℕ, ◌<◌, ℤ, pos, neg_ℤ, ◌+ℤ◌, ◌*ℤ◌, ◌≤ℤ◌, ◌≤◌, length, unsigned_abs}
+use Rattle.std.specs.Prelude.{◌<◌, ℤ, pos, neg_ℤ, ◌+ℤ◌, ◌*ℤ◌, ◌≤ℤ◌, ◌≤◌, length, unsigned_abs}
 use Rattle.lie_datum.specs.Vectors.{Vector, pairing, plus, times}
 use Rattle.lie_datum.specs.RootDatum.{vector, covector}
 use Rattle.lie_datum.specs.RootList.{Roots, root_of, IsNumber}
