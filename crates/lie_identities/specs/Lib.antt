@@ -1,0 +1,3 @@
+pub mod AuditRelations
+pub mod Audit
+pub mod LightModules
