@@ -532,17 +532,21 @@ fn failing_streams(rt: HostRuntime) -> Result<(), Fail> {
     Ok(())
 }
 
+// A run with these words.
+const fn asking<'a>(words: &'a [&'a str]) -> Run<'a> {
+    Run { words, ..PLAIN }
+}
+
 #[test]
 fn other_words(rt: HostRuntime) -> Result<(), Fail> {
-    let words: [&[&str]; 5] = [
-        &["demo", "0"],
-        &["demo", "01"],
-        &["walk"],
-        &[],
-        &["run", "run"],
+    let cases = [
+        asking(&["demo", "0"]),
+        asking(&["demo", "01"]),
+        asking(&["walk"]),
+        asking(&[]),
+        asking(&["run", "run"]),
     ];
-    for words in words {
-        let run = Run { words, ..PLAIN };
+    for run in cases {
         assert!(rt; runs(rt.alloc(), run, "", PRODUCT, "", Status::Usage)?);
     }
     Ok(())
