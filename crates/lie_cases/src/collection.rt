@@ -90,6 +90,29 @@ fn digit(rt: &impl Abort, field: &Field, digits: &str, k: usize) -> Fe
     field.elem(n).expect(rt, "a digit")
 }
 
+/// The product with one letter more, at the k-th positive root.
+fn pushed(
+    rt: &impl Abort,
+    alloc: Global,
+    field: &Field,
+    datum: &Datum,
+    consts: &Constants,
+    u: &Unip<Field>,
+    k: usize,
+    a: Fe,
+) -> Unip<Field>
+    requires loads { LoadsConstants datum.now (Ok consts.now) }
+    requires entries { AreEntries (field_ring field.now) (length datum.now.positive) u.now }
+    requires above { 0 < k }
+    requires below { k ≤ 120 }
+    requires element { a < order field.now.given }
+    ensures { AreEntries (field_ring field.now) (length datum.now.positive) result }
+{
+    let r = positive(rt, datum, k);
+    u.push(alloc, field, datum, consts, r, &a)
+        .expect(rt, "memory")
+}
+
 /// The element of these coefficients, one digit for each positive root in order.
 fn element(
     rt: &impl Abort,
@@ -104,11 +127,8 @@ fn element(
 {
     let mut u = Unip::one(alloc, field, datum).expect(rt, "memory");
     for k in 0..datum.m() {
-        let r = positive(rt, datum, k + 1);
         let a = digit(rt, field, digits, k);
-        u = u
-            .push(alloc, field, datum, consts, r, &a)
-            .expect(rt, "memory");
+        u = pushed(rt, alloc, field, datum, consts, &u, k + 1, a);
     }
     u
 }
@@ -133,19 +153,11 @@ fn letters_pushed_in_g2(rt: HostRuntime) {
     let datum = load(&rt, alloc, &G_2);
     let consts = constants(&rt, alloc, &datum);
     let one = digit(&rt, &field, "1", 0);
-    let start = Unip::one(alloc, &field, &datum).expect(&rt, "memory");
-    let first = positive(&rt, &datum, 1);
-    let second = positive(&rt, &datum, 2);
-    let u = start
-        .push(alloc, &field, &datum, &consts, second, &one)
-        .expect(&rt, "memory");
-    let both = u
-        .push(alloc, &field, &datum, &consts, first, &one)
-        .expect(&rt, "memory");
+    let start = element(&rt, alloc, &field, &datum, &consts, "000000");
+    let u = pushed(&rt, alloc, &field, &datum, &consts, &start, 2, one);
+    let both = pushed(&rt, alloc, &field, &datum, &consts, &u, 1, one);
     check(&rt, &field, &datum, &both, "114144");
-    let letter = start
-        .push(alloc, &field, &datum, &consts, first, &one)
-        .expect(&rt, "memory");
+    let letter = pushed(&rt, alloc, &field, &datum, &consts, &start, 1, one);
     let inverse = letter
         .inv(alloc, &field, &datum, &consts)
         .expect(&rt, "memory");
