@@ -2,7 +2,7 @@
 use Rattle.std.proofs.Common.{◌≡◌, ◌<◌, ◌≤◌, ◌-◌, ◌⊎◌, ℕ, zero, suc, ℤ, pos, ◌*ℤ◌, List, [], ◌∷◌, length, refl, sym, ap, ap₂, subst, ◌∙◌, ⊎_elim, inl, inr, arith}
 use Rattle.lie_datum.specs.Numbers.{place}
 use Rattle.lie_datum.specs.RootDatum.{IsSimpleIndex, reflected, is_reflected}
-use Rattle.lie_datum.specs.RootList.{Roots, IsLoaded, IsNumber, root_of}
+use Rattle.lie_datum.specs.RootList.{RootDatum, IsLoaded, IsNumber, root_of}
 use Rattle.lie_datum.proofs.NumberLemmas.{place_within}
 use Rattle.lie_datum.proofs.SignedRoots.{same_place, opposite_number, root_is, number_is}
 use Rattle.lie_weyl.specs.Orders.{IsOrder}
@@ -32,15 +32,15 @@ one_sign = record {
 -- ---- braid values
 
 -- the order of a product is one
-pub one_order : (d : Roots) (w : List ℕ) (m n : ℕ) → IsOrder d w m → IsOrder d w n → m ≡ n
+pub one_order : (d : RootDatum) (w : List ℕ) (m n : ℕ) → IsOrder d w m → IsOrder d w n → m ≡ n
 one_order d w m n p q = ⊎_elim (λ l. absurd (q.least m p.some l p.one)) (λ o. ⊎_elim (λ l. absurd (p.least n q.some l q.one)) (λ e. e) o) (compare m n)
 
-pub one_value : (d : Roots) (eta : Signs) (i j : ℕ) (c e : ℤ) → IsBraidValue d eta i j c → IsBraidValue d eta i j e → c ≡ e
+pub one_value : (d : RootDatum) (eta : Signs) (i j : ℕ) (c e : ℤ) → IsBraidValue d eta i j c → IsBraidValue d eta i j e → c ≡ e
 one_value d eta i j c e p q =
     p.value ∙ ap (λ m. carried_sign d eta (alternating j i (m - 1)) (pos i)) (one_order d (i ∷ (j ∷ [])) p.order q.order p.is_order q.is_order) ∙ sym q.value
 
 -- a pair that is bad is not among those that are good
-not_earlier : (d : Roots) (eta : Signs) (i j : ℕ) (c : ℤ) → IsFirstBadBraid d eta i j c → IsBraidValue d eta i j (pos 1) → ⊥
+not_earlier : (d : RootDatum) (eta : Signs) (i j : ℕ) (c : ℤ) → IsFirstBadBraid d eta i j c → IsBraidValue d eta i j (pos 1) → ⊥
 not_earlier d eta i j c f v = f.bad (one_value d eta i j c (pos 1) f.value v)
 
 -- signs have one answer on braid values
@@ -56,14 +56,14 @@ one_braid = record {
 -- ---- signs that agree where they are read
 
 -- signs of two tables agree on the simple indices and the roots
-abbrev pub Agree : Roots → Signs → Signs → Type 0
+abbrev pub Agree : RootDatum → Signs → Signs → Type 0
 Agree d eta eta' = (i : ℕ) (s : ℤ) → IsSimpleIndex d.base i → IsNumber d s → eta i s ≡ eta' i s
 
 -- two tables of the signs of a module agree
-pub signs_agree : (d : Roots) (v : Module) (t u : SignTable) → AreTestedSigns d v t → AreTestedSigns d v u → Agree d (eta_of t) (eta_of u)
+pub signs_agree : (d : RootDatum) (v : Module) (t u : SignTable) → AreTestedSigns d v t → AreTestedSigns d v u → Agree d (eta_of t) (eta_of u)
 signs_agree d v t u p q i s h n = p.signs.entries i s h n ∙ sym (q.signs.entries i s h n)
 
-module _ (d : Roots) (loaded : IsLoaded d) where
+module _ (d : RootDatum) (loaded : IsLoaded d) where
   -- s_i s is the number of a root
   image_number : (i : ℕ) (s : ℤ) → IsSimpleIndex d.base i → IsNumber d s → IsNumber d (image d i s)
   image_number i s h n =

@@ -12,7 +12,7 @@ use Rattle.lie_ring.specs.SumLemmas.{sum-same}
 use Rattle.lie_datum.specs.Vectors.{plus}
 use Rattle.lie_datum.specs.Numbers.{place, number_at}
 use Rattle.lie_datum.specs.RootDatum.{rank}
-use Rattle.lie_datum.specs.RootList.{Roots, IsLoaded, IsNumber}
+use Rattle.lie_datum.specs.RootList.{RootDatum, IsLoaded, IsNumber}
 use Rattle.lie_datum.proofs.Entries.{within_or_past}
 use Rattle.lie_datum.proofs.NumberLemmas.{numbered_at}
 use Rattle.lie_const.specs.StructureConstants.{Table, StandsFor, coeffs_of, same_vector}
@@ -32,7 +32,7 @@ use Rattle.lie_audit.specs.SignAnswers.{AreTestedSigns}
 use Rattle.lie_audit.specs.OneAdjoint.{HasSignCount}
 
 -- ---- two tables give the same powers
-module _ (d : Roots) (loaded : IsLoaded d) (n m : Table) (stands : StandsFor d n) (also : StandsFor d m) (r : ℤ) (number : IsNumber d r) where
+module _ (d : RootDatum) (loaded : IsLoaded d) (n m : Table) (stands : StandsFor d n) (also : StandsFor d m) (r : ℤ) (number : IsNumber d r) where
   -- the bracket reads N_rs only where r + s is a root
   bracket_roots : (t s : ℤ) → IsNumber d t → IsNumber d s → bracket d n r (RootVector t) (RootVector s) ≡ bracket d m r (RootVector t) (RootVector s)
   bracket_roots t s a b = by (same_vector (coeffs_of d t) (plus (coeffs_of d r) (coeffs_of d s))) refl
@@ -69,14 +69,14 @@ divided_same k x y a e f =
     cancel x y (pos (factorial k)) (omega (arith, ints, some)) (*ℤ_comm x (pos (factorial k)) ∙ e ∙ sym f ∙ *ℤ_comm (pos (factorial k)) y)
 
 -- each matrix of a module is the table of its entries
-power_table : (d : Roots) (v : Module) (r : ℤ) (k : ℕ) → IsModule d v → IsNumber d r → divided_power v r (suc k) ≡ table (dimension v) (dimension v) (entry (pos 0) (divided_power v r (suc k)))
+power_table : (d : RootDatum) (v : Module) (r : ℤ) (k : ℕ) → IsModule d v → IsNumber d r → divided_power v r (suc k) ≡ table (dimension v) (dimension v) (entry (pos 0) (divided_power v r (suc k)))
 power_table d v r k shape a = ⊎_elim
     (λ l. shape.square r k a l)
     (λ l. (let past = get_or_past (divided_powers v r) k (zero_matrix (pos 0) (dimension v) (dimension v)) l in
     past ∙ table-shaped (pos 0) (dimension v) (dimension v) (λ _ _. pos 0) ∙ ap (λ M. table (dimension v) (dimension v) (entry (pos 0) M)) (sym past)))
     (within_or_past k (top v r))
 
-module _ (d : Roots) (loaded : IsLoaded d) (v w : Module) (first : IsAdjointOf d v) (second : IsAdjointOf d w) where
+module _ (d : RootDatum) (loaded : IsLoaded d) (v w : Module) (first : IsAdjointOf d v) (second : IsAdjointOf d w) where
   weights_same : w.weights ≡ v.weights
   weights_same = second.2.weights ∙ sym first.2.weights
 
@@ -107,7 +107,7 @@ row_place (suc rows) n k l =
     (λ high. (rows, k - rows * n, omega arith, omega (arith, l, e, high), omega (arith, high)))
     (within_or_past k (rows * n))
 
-module _ (d : Roots) (v : Module) where
+module _ (d : RootDatum) (v : Module) where
   sign_at : (t : SignTable) → AreTestedSigns d v t → (a h : ℕ) → a < rank d.base → h < 2 * length d.positive →
       get_or t.signs (a * (2 * length d.positive) + h) (pos 1) ≡ sign_entry d v (suc a) (number_at (length d.positive) h)
   sign_at t p a h l q =

@@ -3,12 +3,12 @@ use Rattle.std.proofs.Common.{◌≡◌, ℕ, ◌-◌, ◌+◌, ◌<◌, pos, ne
 use Rattle.std.specs.Option.{unwrap_or}
 use Rattle.std.proofs.lemmas.Bool.{lt-ltb}
 use Rattle.lie_datum.specs.RootDatum.{simple, IsSimpleIndex}
-use Rattle.lie_datum.specs.RootList.{Roots, IsNumber, root_of}
+use Rattle.lie_datum.specs.RootList.{RootDatum, IsNumber, root_of}
 use Rattle.lie_datum.specs.Laws.{SimplesFirst}
 use Rattle.lie_datum.specs.Numbers.{number_at}
 use Rattle.lie_datum.proofs.NumberLemmas.{place_within}
 
-module _ (d : Roots) (law : SimplesFirst d) where
+module _ (d : RootDatum) (law : SimplesFirst d) where
   pub simple_number : (i : ℕ) → IsSimpleIndex d.base i → IsNumber d (pos i)
   simple_number i h = ap is_some (law i h)
 

@@ -7,7 +7,7 @@ use Rattle.std.proofs.lemmas.List.{get_or_append_left}
 use Rattle.std.proofs.lemmas.List.Elements.{All-get_or, All-from_get_or}
 use Rattle.lie_datum.specs.Numbers.{place, number_at}
 use Rattle.lie_datum.specs.RootDatum.{rank, IsSimpleIndex}
-use Rattle.lie_datum.specs.RootList.{Roots, IsNumber}
+use Rattle.lie_datum.specs.RootList.{RootDatum, IsNumber}
 use Rattle.lie_datum.proofs.Entries.{within_or_past}
 use Rattle.lie_datum.proofs.NumberLemmas.{place_within, numbered_at}
 use Rattle.lie_datum.proofs.SignedRoots.{same_place, opposite_number}
@@ -15,7 +15,7 @@ use Rattle.lie_const.specs.Modules.{Module}
 use Rattle.lie_const.specs.Signs.{Signs, sign_entry, IsGoodSign, eta_of, IsSignList}
 use Rattle.lie_weight.proofs.MatrixLists.{get_or-last, length-push}
 use Rattle.lie_audit.specs.SignAnswers.{AreTestedSigns}
-use Rattle.lie_audit.specs.SignParts.{IsUnit, ComesBefore, AreTested, IsAsked}
+use Rattle.lie_audit.specs.SignParts.{IsSign, ComesBefore, AreTested, IsAsked}
 
 -- which of two numbers is less
 pub compare : (a b : ℕ) → (a < b) ⊎ ((b < a) ⊎ (a ≡ b))
@@ -24,21 +24,21 @@ compare a b = ⊎_elim (λ l. inl l) (λ l. ⊎_elim (λ k. inr (inl k)) (λ k. 
 -- what is asked of a sign is that it is good
 pub good_from_asked : (eta : Signs) (i : ℕ) (s value other : ℤ) → value ≡ eta i s → (s <ℤ pos 0 → other ≡ eta i (neg_ℤ s)) → IsAsked i s value other → IsGoodSign eta i s
 good_from_asked eta i s value other e f a = record {
-  unit = subst IsUnit e a.unit;
+  unit = subst IsSign e a.unit;
   own = λ o. sym e ∙ a.own o;
   opposite = λ n. sym e ∙ a.opposite n ∙ f n;
 }
 
 pub asked_from_good : (eta : Signs) (i : ℕ) (s value other : ℤ) → value ≡ eta i s → (s <ℤ pos 0 → other ≡ eta i (neg_ℤ s)) → IsGoodSign eta i s → IsAsked i s value other
 asked_from_good eta i s value other e f g = record {
-  unit = subst IsUnit (sym e) g.unit;
+  unit = subst IsSign (sym e) g.unit;
   own = λ o. e ∙ g.own o;
   opposite = λ n. e ∙ g.opposite n ∙ sym (f n);
 }
 
 -- signs that agree at s and at its opposite are good together
 pub good_same : (eta zeta : Signs) (i : ℕ) (s : ℤ) → eta i s ≡ zeta i s → eta i (neg_ℤ s) ≡ zeta i (neg_ℤ s) → IsGoodSign zeta i s → IsGoodSign eta i s
-good_same eta zeta i s e f g = record { unit = subst IsUnit (sym e) g.unit; own = λ o. e ∙ g.own o; opposite = λ n. e ∙ g.opposite n ∙ sym f }
+good_same eta zeta i s e f g = record { unit = subst IsSign (sym e) g.unit; own = λ o. e ∙ g.own o; opposite = λ n. e ∙ g.opposite n ∙ sym f }
 
 -- a row of n places ends where the next begins
 row_ends : (a b n : ℕ) → a < b → a * n + n ≤ b * n
@@ -54,15 +54,15 @@ next_row (suc i) n h =
     ap (λ k. k * n + n) a ∙ d ∙ ap (λ k. k * n + 0) (sym b)
 
 -- the root at a place stands there
-pub place_at : (d : Roots) (h m : ℕ) (r : ℤ) → m ≡ length d.positive → h < 2 * m → r ≡ number_at m h → place (length d.positive) r ≡ h
+pub place_at : (d : RootDatum) (h m : ℕ) (r : ℤ) → m ≡ length d.positive → h < 2 * m → r ≡ number_at m h → place (length d.positive) r ≡ h
 place_at d h m r e l q = ap (place (length d.positive)) (q ∙ ap (λ k. number_at k h) e) ∙ (numbered_at d h (omega (arith, l, e))).place
 
-module _ (d : Roots) (v : Module) where
+module _ (d : RootDatum) (v : Module) where
   -- no sign yet
   pub none_tested : (xs : List ℤ) → xs ≡ [] → AreTested d v xs 1 0
   none_tested xs e = record {
     count = ap length e ∙ (let z : 0 ≡ (1 - 1) * (2 * length d.positive) + 0 = omega arith in z);
-    units = subst (All IsUnit) (sym e) (λ i x l. absurd (omega (arith, l)));
+    units = subst (All IsSign) (sym e) (λ i x l. absurd (omega (arith, l)));
     values = λ j r h n o. absurd (⊎_elim (λ l. (let a = h.0 in omega (arith, l, a))) (λ f. (let l = f.1 in omega (arith, l))) o);
     good = λ j r h n o. absurd (⊎_elim (λ l. (let a = h.0 in omega (arith, l, a))) (λ f. (let l = f.1 in omega (arith, l))) o);
   }
@@ -94,9 +94,9 @@ module _ (d : Roots) (v : Module) where
       let here = λ (j : ℕ) (r : ℤ) (n : IsNumber d r) (f : (j ≡ i) × (place m r < h + 1)) (l : h ≤ place m r). same_place m r s (place_within d r n) (place_within d s a) (let k = f.1 in omega (arith, k, l)) in
       subst (λ zs. AreTested d v zs i (h + 1)) (sym q) (record {
         count = let k = length-push xs x in omega (arith, k, count);
-        units = All-from_get_or IsUnit (xs ++ x ∷ []) (pos 1) (λ k l. ⊎_elim
-            (λ b. subst IsUnit (sym (get_or_append_left xs (x ∷ []) (pos 1) k b)) (All-get_or IsUnit xs k (pos 1) b t.units))
-            (λ b. (let e' : k ≡ length xs = let len = length-push xs x in omega (arith, l, b, len) in subst IsUnit (sym (get_or-last xs x (pos 1) k e')) (subst IsUnit (sym e) g.unit)))
+        units = All-from_get_or IsSign (xs ++ x ∷ []) (pos 1) (λ k l. ⊎_elim
+            (λ b. subst IsSign (sym (get_or_append_left xs (x ∷ []) (pos 1) k b)) (All-get_or IsSign xs k (pos 1) b t.units))
+            (λ b. (let e' : k ≡ length xs = let len = length-push xs x in omega (arith, l, b, len) in subst IsSign (sym (get_or-last xs x (pos 1) k e')) (subst IsSign (sym e) g.unit)))
             (within_or_past k (length xs)));
         values = λ j r b n o. ⊎_elim
             (λ l. old xs x i h j r (pos 1) count (place_before i h j r b n (inl l)) ∙ t.values j r b n (inl l))

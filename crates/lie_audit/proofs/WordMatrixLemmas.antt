@@ -18,7 +18,7 @@ use Rattle.lie_field.specs.Algebra.Laws.{add_below, mul_below}
 use Rattle.lie_field.specs.Algebra.Powers.{one_below}
 use Rattle.lie_datum.specs.Vectors.{Vector}
 use Rattle.lie_datum.specs.RootDatum.{IsSimpleIndex}
-use Rattle.lie_datum.specs.RootList.{Roots, IsNumber}
+use Rattle.lie_datum.specs.RootList.{RootDatum, IsNumber}
 use Rattle.lie_const.specs.ConstantTables.{ConstantTable}
 use Rattle.lie_const.specs.Modules.{Module, dimension, root_element, root_element_entry, weyl_element, weyl_inverse}
 use Rattle.lie_letters.specs.declared.letter.Letter.{Letter as CodeLetter}
@@ -160,7 +160,7 @@ module _ (f : FiniteField) where
 none : ConstantTable
 none = record { positive = 0; values = []; terms = [] }
 
-module _ (f : FiniteField) (d : Roots) (x : CodeLetter) (over : IsLetterFor f d x) where
+module _ (f : FiniteField) (d : RootDatum) (x : CodeLetter) (over : IsLetterFor f d x) where
   -- what is asked of a root letter, of a torus letter, and of an n_i and its inverse
   pub for-X : (r : ℤ) (a : ℕ) → x ≡ X r a → IsNumber d r × (a < order f.given)
   for-X r a e = subst (IsLetterOver (frame_with f d none)) e (over none)
@@ -180,7 +180,7 @@ letter_at P k [] d h lt is = absurd (omega (arith, lt))
 letter_at P zero (x ∷ w) d h lt is = subst P (sym is) h.0
 letter_at P (suc k) (x ∷ w) d h lt is = letter_at P k w d h.1 (omega (arith, lt)) is
 
-pub letter-for : (f : FiniteField) (d : Roots) (w : List CodeLetter) (k : ℕ) (x : CodeLetter) → IsWordFor f d w → k < length w → x ≡ get_or w k x → IsLetterFor f d x
+pub letter-for : (f : FiniteField) (d : RootDatum) (w : List CodeLetter) (k : ℕ) (x : CodeLetter) → IsWordFor f d w → k < length w → x ≡ get_or w k x → IsLetterFor f d x
 letter-for f d w k x over lt is = λ c. letter_at (IsLetterOver (frame_with f d c)) k w x (over c) lt is
 
 module _ (f : FiniteField) (v : Module) where

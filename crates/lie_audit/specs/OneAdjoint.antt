@@ -2,7 +2,7 @@
 -- Source: any text on Chevalley groups, as that of Carter (the structure constants are determined by their values on extraspecial pairs).
 -- Own: the statements.
 use Rattle.std.specs.Prelude.{◌≡◌, ◌*◌, length}
-use Rattle.lie_datum.specs.RootList.{Roots, IsLoaded}
+use Rattle.lie_datum.specs.RootList.{RootDatum, IsLoaded}
 use Rattle.lie_const.specs.Modules.{Module}
 use Rattle.lie_const.specs.Adjoint.{IsAdjointOf}
 use Rattle.lie_const.specs.Signs.{SignTable}
@@ -10,7 +10,7 @@ use Rattle.lie_audit.specs.SignAnswers.{AreTestedSigns}
 
 -- adjoint modules of one datum are equal, whatever the tables of constants they are made with
 abbrev pub OneAdjoint : Type 0
-OneAdjoint = (d : Roots) (v w : Module) → IsLoaded d → IsAdjointOf d v → IsAdjointOf d w → v ≡ w
+OneAdjoint = (d : RootDatum) (v w : Module) → IsLoaded d → IsAdjointOf d v → IsAdjointOf d w → v ≡ w
 
 -- the table has one sign for each simple index and each root
 abbrev pub HasSignCount : SignTable → Type 0
@@ -18,4 +18,4 @@ HasSignCount t = length t.signs ≡ t.rank * (2 * t.positive)
 
 -- tables of the signs of one module are equal
 abbrev pub OneSignTable : Type 0
-OneSignTable = (d : Roots) (v : Module) (t u : SignTable) → HasSignCount t → HasSignCount u → AreTestedSigns d v t → AreTestedSigns d v u → t ≡ u
+OneSignTable = (d : RootDatum) (v : Module) (t u : SignTable) → HasSignCount t → HasSignCount u → AreTestedSigns d v t → AreTestedSigns d v u → t ≡ u

@@ -35,22 +35,22 @@ fn one_entry(alloc: Global, field: &Field, row: usize, col: usize) -> Result<Fe,
 fn root_entry(
     alloc: Global,
     field: &Field,
-    module: &Module,
+    space: &Module,
     r: RootId,
     a: Fe,
     row: usize,
     col: usize,
 ) -> Result<Fe, AllocError>
-    requires r { unsigned_abs r ≤ module.now.positive }
+    requires r { unsigned_abs r ≤ space.now.positive }
     requires a { a < order field.now.given }
-    requires row { row < dimension module.now }
-    requires col { col < dimension module.now }
-    ensures { IfOk result (λ e. e ≡ root_element_entry (field_ring field.now) module.now r a row col) }
+    requires row { row < dimension space.now }
+    requires col { col < dimension space.now }
+    ensures { IfOk result (λ e. e ≡ root_element_entry (field_ring field.now) space.now r a row col) }
 {
     let mut sum = one_entry(alloc, field, row, col)?;
     let mut power = a;
-    for k in 0..module.top(r) {
-        let factor = roomy_of_int(field, alloc, power_entry(module, r, k + 1, row, col))?;
+    for k in 0..space.top(r) {
+        let factor = roomy_of_int(field, alloc, power_entry(space, r, k + 1, row, col))?;
         sum = field.add(sum, field.mul(power, factor));
         power = field.mul(power, a);
     }
@@ -61,20 +61,20 @@ fn root_entry(
 fn fill_row(
     alloc: Global,
     field: &Field,
-    module: &Module,
+    space: &Module,
     r: RootId,
     a: Fe,
     matrix: &mut Dense,
     row: usize,
 ) -> Result<(), AllocError>
-    requires r { unsigned_abs r ≤ module.now.positive }
+    requires r { unsigned_abs r ≤ space.now.positive }
     requires a { a < order field.now.given }
-    requires row { row < dimension module.now }
-    requires partly { matrix.old ≡ partial_table 0 (dimension module.now) (dimension module.now) (root_element_entry (field_ring field.now) module.now r a) row 0 }
-    ensures { OnOk result (matrix.new ≡ partial_table 0 (dimension module.now) (dimension module.now) (root_element_entry (field_ring field.now) module.now r a) row (dimension module.now)) }
+    requires row { row < dimension space.now }
+    requires partly { matrix.old ≡ partial_table 0 (dimension space.now) (dimension space.now) (root_element_entry (field_ring field.now) space.now r a) row 0 }
+    ensures { OnOk result (matrix.new ≡ partial_table 0 (dimension space.now) (dimension space.now) (root_element_entry (field_ring field.now) space.now r a) row (dimension space.now)) }
 {
-    for col in 0..module.dim() {
-        let e = root_entry(alloc, field, module, r, a, row, col)?;
+    for col in 0..space.dim() {
+        let e = root_entry(alloc, field, space, r, a, row, col)?;
         matrix.set(row, col, e);
     }
     Ok(())
@@ -84,18 +84,18 @@ fn fill_row(
 fn root_matrix(
     alloc: Global,
     field: &Field,
-    module: &Module,
+    space: &Module,
     r: RootId,
     a: Fe,
 ) -> Result<Dense, AllocError>
-    requires r { unsigned_abs r ≤ module.now.positive }
+    requires r { unsigned_abs r ≤ space.now.positive }
     requires a { a < order field.now.given }
-    ensures { IfOk result (λ m. m ≡ root_element (field_ring field.now) module.now r a) }
+    ensures { IfOk result (λ m. m ≡ root_element (field_ring field.now) space.now r a) }
 {
-    let n = module.dim();
+    let n = space.dim();
     let mut matrix = Dense::zero(alloc, n)?;
     for row in 0..n {
-        fill_row(alloc, field, module, r, a, &mut matrix, row)?;
+        fill_row(alloc, field, space, r, a, &mut matrix, row)?;
     }
     Ok(matrix)
 }
@@ -104,16 +104,16 @@ fn root_matrix(
 fn torus_matrix(
     alloc: Global,
     field: &Field,
-    module: &Module,
+    space: &Module,
     t: &Torus,
 ) -> Result<Dense, AllocError>
     requires { AreUnits field.now t.now }
-    ensures { IfOk result (λ m. m ≡ torus_element field.now module.now t.now) }
+    ensures { IfOk result (λ m. m ≡ torus_element field.now space.now t.now) }
 {
-    let n = module.dim();
+    let n = space.dim();
     let mut matrix = Dense::zero(alloc, n)?;
     for i in 0..n {
-        let value = t.char_of(field, module.weight(i));
+        let value = t.char_of(field, space.weight(i));
         matrix.set(i, i, value);
     }
     Ok(matrix)
@@ -123,18 +123,18 @@ fn torus_matrix(
 fn conjugated(
     alloc: Global,
     field: &Field,
-    module: &Module,
+    space: &Module,
     r: RootId,
     a: Fe,
     b: Fe,
 ) -> Result<Dense, AllocError>
-    requires r { unsigned_abs r ≤ module.now.positive }
+    requires r { unsigned_abs r ≤ space.now.positive }
     requires a { a < order field.now.given }
     requires b { b < order field.now.given }
-    ensures { IfOk result (λ m. m ≡ product (field_ring field.now) (root_element (field_ring field.now) module.now r a) (product (field_ring field.now) (root_element (field_ring field.now) module.now (neg_ℤ r) b) (root_element (field_ring field.now) module.now r a))) }
+    ensures { IfOk result (λ m. m ≡ product (field_ring field.now) (root_element (field_ring field.now) space.now r a) (product (field_ring field.now) (root_element (field_ring field.now) space.now (neg_ℤ r) b) (root_element (field_ring field.now) space.now r a))) }
 {
-    let outer = root_matrix(alloc, field, module, r, a)?;
-    let inner = root_matrix(alloc, field, module, r.opposite(), b)?;
+    let outer = root_matrix(alloc, field, space, r, a)?;
+    let inner = root_matrix(alloc, field, space, r.opposite(), b)?;
     outer.mul(alloc, field, &inner.mul(alloc, field, &outer)?)
 }
 
@@ -143,16 +143,16 @@ fn weyl_matrix(
     alloc: Global,
     field: &Field,
     datum: &Datum,
-    module: &Module,
+    space: &Module,
     i: usize,
 ) -> Result<Dense, AllocError>
     requires index { IsSimpleIndex datum.now.base i }
-    requires module { IsModule datum.now module.now }
-    ensures { IfOk result (λ m. m ≡ weyl_element (field_ring field.now) module.now i) }
+    requires space { IsModule datum.now space.now }
+    ensures { IfOk result (λ m. m ≡ weyl_element (field_ring field.now) space.now i) }
 {
     let _ = datum.m();
     let one = roomy_one(field, alloc)?;
-    conjugated(alloc, field, module, simple(datum, i), one, field.neg(one))
+    conjugated(alloc, field, space, simple(datum, i), one, field.neg(one))
 }
 
 /// The matrix of the inverse of n_i.
@@ -160,16 +160,16 @@ fn inverse_matrix(
     alloc: Global,
     field: &Field,
     datum: &Datum,
-    module: &Module,
+    space: &Module,
     i: usize,
 ) -> Result<Dense, AllocError>
     requires index { IsSimpleIndex datum.now.base i }
-    requires module { IsModule datum.now module.now }
-    ensures { IfOk result (λ m. m ≡ weyl_inverse (field_ring field.now) module.now i) }
+    requires space { IsModule datum.now space.now }
+    ensures { IfOk result (λ m. m ≡ weyl_inverse (field_ring field.now) space.now i) }
 {
     let _ = datum.m();
     let one = roomy_one(field, alloc)?;
-    conjugated(alloc, field, module, simple(datum, i), field.neg(one), one)
+    conjugated(alloc, field, space, simple(datum, i), field.neg(one), one)
 }
 
 /// The matrix of a letter.
@@ -177,18 +177,18 @@ pub(crate) fn letter_matrix(
     alloc: Global,
     field: &Field,
     datum: &Datum,
-    module: &Module,
+    space: &Module,
     letter: &Letter,
 ) -> Result<Dense, AllocError>
-    requires module { IsModule datum.now module.now }
+    requires space { IsModule datum.now space.now }
     requires letter { IsLetterFor field.now datum.now letter.now }
-    ensures { IfOk result (λ m. m ≡ letter_matrix field.now module.now letter.now) }
+    ensures { IfOk result (λ m. m ≡ letter_matrix field.now space.now letter.now) }
 {
     let _ = datum.m();
     match letter {
-        Letter::X(r, a) => root_matrix(alloc, field, module, *r, *a),
-        Letter::H(t) => torus_matrix(alloc, field, module, t),
-        Letter::N(i) => weyl_matrix(alloc, field, datum, module, usize::from(*i)),
-        Letter::Ninv(i) => inverse_matrix(alloc, field, datum, module, usize::from(*i)),
+        Letter::X(r, a) => root_matrix(alloc, field, space, *r, *a),
+        Letter::H(t) => torus_matrix(alloc, field, space, t),
+        Letter::N(i) => weyl_matrix(alloc, field, datum, space, usize::from(*i)),
+        Letter::Ninv(i) => inverse_matrix(alloc, field, datum, space, usize::from(*i)),
     }
 }

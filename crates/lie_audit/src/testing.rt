@@ -10,7 +10,7 @@ ghost use Rattle.lie_const.specs.Signs.{sign_entry};
 ghost use Rattle.lie_weight.specs.Laws.{HasSmallMatrices};
 ghost use Rattle.lie_audit.specs.OneAdjoint.{HasSignCount};
 ghost use Rattle.lie_audit.specs.SignAnswers.{IsSignFault, AreTestedSigns};
-ghost use Rattle.lie_audit.specs.SignParts.{AreTested, IsAsked, IsUnit};
+ghost use Rattle.lie_audit.specs.SignParts.{AreTested, IsAsked, IsSign};
 
 use crate::entries::weyl_entry;
 use crate::faults::SignFault;
@@ -21,7 +21,7 @@ use std::alloc::Global;
 
 /// Whether a sign is 1 or -1.
 fn is_unit(value: i128) -> bool
-    ensures { IsTrue result ↔ IsUnit value }
+    ensures { IsTrue result ↔ IsSign value }
 {
     value == 1 || value == -1
 }

@@ -34,8 +34,8 @@ fn adjoint(rt: &impl Abort, alloc: Global, datum: &Datum) -> Module
 fn found(rt: &impl Abort, alloc: Global, datum: &Datum) -> Signs
     ensures { IsSignTable datum.now result }
 {
-    let module = adjoint(rt, alloc, datum);
-    signs(alloc, datum, &module).expect(rt, "signs")
+    let space = adjoint(rt, alloc, datum);
+    signs(alloc, datum, &space).expect(rt, "signs")
 }
 
 /// The sign of a simple index and the root of this number.

@@ -19,18 +19,18 @@ pub fn word_matrix(
     alloc: Global,
     field: &Field,
     datum: &Datum,
-    module: &Module,
+    space: &Module,
     w: &Word,
 ) -> Result<Dense, AllocError>
-    requires module { IsModule datum.now module.now }
+    requires space { IsModule datum.now space.now }
     requires word { IsWordFor field.now datum.now w.now }
-    ensures value { IfOk result (λ m. m ≡ word_matrix field.now module.now w.now) }
+    ensures value { IfOk result (λ m. m ≡ word_matrix field.now space.now w.now) }
     ensures elem { IfOk result (AllElem (field_ring field.now)) }
 {
     let letters = w.letters();
-    let mut matrix = Dense::identity(alloc, field, module.dim())?;
+    let mut matrix = Dense::identity(alloc, field, space.dim())?;
     for letter in letters {
-        let factor = letter_matrix(alloc, field, datum, module, letter)?;
+        let factor = letter_matrix(alloc, field, datum, space, letter)?;
         matrix = matrix.mul(alloc, field, &factor)?;
     }
     Ok(matrix)

@@ -95,16 +95,16 @@ fn words_of_sl2_over_five(rt: HostRuntime) {
     let alloc = rt.alloc();
     let field = Field::load(alloc, 5, 1, &[0], 2).expect(&rt, "a field");
     let datum = special_linear(&rt, alloc);
-    let module = adjoint(&rt, alloc, &datum);
+    let space = adjoint(&rt, alloc, &datum);
     // e_(-1) goes to e_(-1) + h - e_1, and h to h - 2 e_1
     let root = root_word(&rt, alloc, &field, &datum);
-    let matrix = word_matrix(alloc, &field, &datum, &module, &root).expect(&rt, "memory");
+    let matrix = word_matrix(alloc, &field, &datum, &space, &root).expect(&rt, "memory");
     has_rows(&rt, &matrix, &[[1, 3, 4], [0, 1, 1], [0, 0, 1]]);
     let weyl = weyl_word(&rt, alloc, &field, &datum);
-    let matrix = word_matrix(alloc, &field, &datum, &module, &weyl).expect(&rt, "memory");
+    let matrix = word_matrix(alloc, &field, &datum, &space, &weyl).expect(&rt, "memory");
     has_rows(&rt, &matrix, &[[1, 0, 0], [0, 1, 0], [0, 0, 1]]);
     // the weights 2, 0 and -2 at 2
     let torus = torus_word(&rt, alloc, &field, &datum);
-    let matrix = word_matrix(alloc, &field, &datum, &module, &torus).expect(&rt, "memory");
+    let matrix = word_matrix(alloc, &field, &datum, &space, &torus).expect(&rt, "memory");
     has_rows(&rt, &matrix, &[[4, 0, 0], [0, 1, 0], [0, 0, 4]]);
 }

@@ -5,8 +5,8 @@ ghost use Rattle.lie_datum.specs.RootList.{IsNumber};
 
 use crate::{A_2, A_3, E_8, G_2, NamedDatum, padded};
 use lie_datum::{
-    Datum, DatumFault, RootId, Side, Vector, first_law, one_answer, reflection_law, second_law,
-    simple_reflection_law, simples_first, third_law,
+    Datum, DatumFault, RootId, Side, Vector, form_law, height_law, one_answer, reflection_law,
+    root_pair_law, simple_reflection_law, simples_first,
 };
 use std::alloc::Global;
 use std::process::Abort;
@@ -266,9 +266,9 @@ fn laws(rt: HostRuntime) {
     datum.loaded();
     datum.laws();
     one_answer();
-    first_law();
-    second_law();
-    third_law();
+    form_law();
+    root_pair_law();
+    height_law();
     reflection_law();
     simple_reflection_law();
     simples_first();

@@ -8,14 +8,14 @@ use Rattle.std.specs.Ordering.{int_cmp, is_eq, MatchOrdering}
 use Rattle.std.specs.declared.cmp.Ordering.{Ordering}
 use Rattle.std.specs.declared.cmp.Ordering.TheVariants.{Less, Equal, Greater}
 use Rattle.lie_datum.specs.Vectors.{Vector, plus, times, minus, entry}
-use Rattle.lie_datum.specs.RootList.{Roots, IsLoaded, IsNumber, NamesRoot, root_of}
+use Rattle.lie_datum.specs.RootList.{RootDatum, IsLoaded, IsNumber, NamesRoot, root_of}
 use Rattle.lie_base.proofs.RingSolver.{ring, var, num, ◌⊕◌, ◌⊗◌}
 use Rattle.lie_datum.proofs.Entries.{entry-plus, entry-times, length-plus, length-times, same_entries}
 use Rattle.lie_datum.proofs.VectorLemmas.{abs_mul}
 use Rattle.lie_datum.proofs.RunLemmas.{times_none}
 use Rattle.lie_datum.proofs.SignedRoots.{root_is, same_number, same_coeffs, opposite_number}
 use Rattle.lie_const.specs.StructureConstants.{Table, coeffs_of, IsSum, HasSigns, same_vector}
-use Rattle.lie_const.specs.CommutatorTerms.{number_of, value_at, chain}
+use Rattle.lie_const.specs.CommutatorTerms.{number_of, value_at, string_product}
 use Rattle.lie_const.specs.TermFilling.{IsWalked}
 use Rattle.lie_const.proofs.SumLemmas.{neg_neg, long, not_opposite, compare_numbers}
 use Rattle.lie_const.proofs.FoundRoots.{not_passed, from_same_vector, same_vector_refl, number_of_is}
@@ -72,17 +72,17 @@ chosen_right n x y true false = refl
 chosen_right n x y false true = refl
 chosen_right n x y false false = refl
 
-pub value_absent_left : (d : Roots) (n : Table) (u v : Vector) → number_of d u ≡ pos 0 → value_at d n u v ≡ pos 0
+pub value_absent_left : (d : RootDatum) (n : Table) (u v : Vector) → number_of d u ≡ pos 0 → value_at d n u v ≡ pos 0
 value_absent_left d n u v e = ap (λ t. chosen n t (number_of d v) (same_vector u (minus v))) e ∙ chosen_left n (pos 0) (number_of d v) (is_eq (int_cmp (number_of d v) (pos 0))) (same_vector u (minus v))
 
-pub value_absent_right : (d : Roots) (n : Table) (u v : Vector) → number_of d v ≡ pos 0 → value_at d n u v ≡ pos 0
+pub value_absent_right : (d : RootDatum) (n : Table) (u v : Vector) → number_of d v ≡ pos 0 → value_at d n u v ≡ pos 0
 value_absent_right d n u v e = ap (λ t. chosen n (number_of d u) t (same_vector u (minus v))) e ∙ chosen_right n (number_of d u) (pos 0) (is_eq (int_cmp (number_of d u) (pos 0))) (same_vector u (minus v))
 
 -- numbers are equal or not
 pub equal_or : (x y : ℤ) → (x ≡ y) ⊎ (x ≢ y)
 equal_or x y = ⊎_elim (λ l. inr (λ f. absurd (omega (arith, ints, l, f)))) (λ f. ⊎_elim (λ l. inr (λ g. absurd (omega (arith, ints, l, g)))) (λ g. inl g) f) (compare_numbers x y)
 
-module _ (d : Roots) (loaded : IsLoaded d) (n : Table) where
+module _ (d : RootDatum) (loaded : IsLoaded d) (n : Table) where
   not_zero : (k : ℤ) → IsNumber d k → k ≡ pos 0 → ⊥
   not_zero (pos zero) m e = cc
   not_zero (pos (suc k)) m e = cc
@@ -133,28 +133,28 @@ module _ (d : Roots) (loaded : IsLoaded d) (n : Table) where
       record {
         number = h.0;
         coeffs = h.1 ∙ ap (plus (coeffs_of d r)) w.coeffs ∙ plus-times (coeffs_of d r) (coeffs_of d s) i (long d loaded r p) (long d loaded s q);
-        value = ap (λ t. t *ℤ v) w.value ∙ ap (λ t. chain d n (coeffs_of d r) (coeffs_of d s) i *ℤ t) (e ∙ sym (value_is r last (plus (times (pos i) (coeffs_of d r)) (coeffs_of d s)) p w.number w.coeffs (not_opposite d loaded r last next sum)))
-            ∙ ap (chain d n (coeffs_of d r) (coeffs_of d s)) (sym more);
+        value = ap (λ t. t *ℤ v) w.value ∙ ap (λ t. string_product d n (coeffs_of d r) (coeffs_of d s) i *ℤ t) (e ∙ sym (value_is r last (plus (times (pos i) (coeffs_of d r)) (coeffs_of d s)) p w.number w.coeffs (not_opposite d loaded r last next sum)))
+            ∙ ap (string_product d n (coeffs_of d r) (coeffs_of d s)) (sym more);
         bound = let f = abs_mul product v (128 ^ i) 128 w.bound l in subst (λ t. unsigned_abs (product *ℤ v) ≤ t) (power i) f;
       }
     where
       power : (i : ℕ) → 128 ^ i * 128 ≡ 128 ^ (i + 1)
       power i = let more : i + 1 ≡ suc i = omega arith in sym (pow-suc 128 i) ∙ ap (λ t. 128 ^ t) (sym more)
 
-  chain_zero : (u v : Vector) (i m : ℕ) → chain d n u v i ≡ pos 0 → chain d n u v (i + m) ≡ pos 0
-  chain_zero u v i zero e = let f : i + 0 ≡ i = omega arith in ap (chain d n u v) f ∙ e
-  chain_zero u v i (suc m) e =
+  string_product_zero : (u v : Vector) (i m : ℕ) → string_product d n u v i ≡ pos 0 → string_product d n u v (i + m) ≡ pos 0
+  string_product_zero u v i zero e = let f : i + 0 ≡ i = omega arith in ap (string_product d n u v) f ∙ e
+  string_product_zero u v i (suc m) e =
       let f : i + suc m ≡ suc (i + m) = omega arith in
-      ap (chain d n u v) f ∙ ap (λ t. t *ℤ value_at d n u (plus (times (pos (i + m)) u) v)) (chain_zero u v i m e) ∙ zero-*ℤ (value_at d n u (plus (times (pos (i + m)) u) v))
+      ap (string_product d n u v) f ∙ ap (λ t. t *ℤ value_at d n u (plus (times (pos (i + m)) u) v)) (string_product_zero u v i m e) ∙ zero-*ℤ (value_at d n u (plus (times (pos (i + m)) u) v))
 
   -- where the next vector is no root, the product is 0
-  pub walk_stops : (r s : ℤ) (i count : ℕ) (product last : ℤ) → HasSigns d n → IsNumber d r → IsWalked d n r s i product last → NamesRoot d (λ t. t.coeffs ≡ plus (coeffs_of d r) (coeffs_of d last)) None → i < count → pos 0 ≡ chain d n (coeffs_of d r) (coeffs_of d s) count
+  pub walk_stops : (r s : ℤ) (i count : ℕ) (product last : ℤ) → HasSigns d n → IsNumber d r → IsWalked d n r s i product last → NamesRoot d (λ t. t.coeffs ≡ plus (coeffs_of d r) (coeffs_of d last)) None → i < count → pos 0 ≡ string_product d n (coeffs_of d r) (coeffs_of d s) count
   walk_stops r s i count product last signs p w none l =
       let more : suc i + (count - suc i) ≡ count = omega (arith, l) in
-      let stop : chain d n (coeffs_of d r) (coeffs_of d s) (suc i) ≡ pos 0 =
-      ap (λ t. chain d n (coeffs_of d r) (coeffs_of d s) i *ℤ t) (value_none r last (plus (times (pos i) (coeffs_of d r)) (coeffs_of d s)) signs p w.number w.coeffs (λ k h. none (root_of d k) (root_is d loaded k h.number) h.is))
-      ∙ times_zero (chain d n (coeffs_of d r) (coeffs_of d s) i) in
-      sym (sym (ap (chain d n (coeffs_of d r) (coeffs_of d s)) more) ∙ chain_zero (coeffs_of d r) (coeffs_of d s) (suc i) (count - suc i) stop)
+      let stop : string_product d n (coeffs_of d r) (coeffs_of d s) (suc i) ≡ pos 0 =
+      ap (λ t. string_product d n (coeffs_of d r) (coeffs_of d s) i *ℤ t) (value_none r last (plus (times (pos i) (coeffs_of d r)) (coeffs_of d s)) signs p w.number w.coeffs (λ k h. none (root_of d k) (root_is d loaded k h.number) h.is))
+      ∙ times_zero (string_product d n (coeffs_of d r) (coeffs_of d s) i) in
+      sym (sym (ap (string_product d n (coeffs_of d r) (coeffs_of d s)) more) ∙ string_product_zero (coeffs_of d r) (coeffs_of d s) (suc i) (count - suc i) stop)
     where
       times_zero : (z : ℤ) → z *ℤ pos 0 ≡ pos 0
       times_zero z = omega (arith, ints)

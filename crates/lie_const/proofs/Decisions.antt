@@ -7,7 +7,7 @@ use lib.Pointwise.{pointwise}
 use Rattle.lie_datum.specs.Vectors.{Vector, plus, times, minus}
 use Rattle.lie_datum.specs.declared.root_pair.Root.{Root}
 use Rattle.lie_datum.specs.RootDatum.{IsRoot}
-use Rattle.lie_datum.specs.RootList.{Roots, IsLoaded, IsNumber, root_of, all_roots, IsRootVector, IsRun, IsString}
+use Rattle.lie_datum.specs.RootList.{RootDatum, IsLoaded, IsNumber, root_of, all_roots, IsRootVector, IsRun, IsString}
 use Rattle.lie_base.proofs.Members.{In, here, there}
 use Rattle.lie_datum.proofs.Entries.{within_or_past}
 use Rattle.lie_datum.proofs.Roots.{root_lengths}
@@ -35,7 +35,7 @@ among v (r ∷ rs) =
     not_here n f s (here e) q = n (ap (λ t. t.coeffs) (sym e) ∙ q)
     not_here n f s (there p) q = f s p q
 
-module _ (d : Roots) (loaded : IsLoaded d) where
+module _ (d : RootDatum) (loaded : IsLoaded d) where
   -- the second part of a sum
   pub same_part : (r k s t : ℤ) → IsSum d r s k → IsSum d k (neg_ℤ r) t → s ≡ t
   same_part r k s t h g =

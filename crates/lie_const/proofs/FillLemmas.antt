@@ -7,7 +7,7 @@ use Rattle.std.proofs.Math.ListN.{length-set}
 use Rattle.std.proofs.lemmas.List.{get_or-set_same, get_or-set_other, get_or-replicate}
 use Rattle.std.proofs.lemmas.Bool.Decides.{nat_tests}
 use Rattle.lie_datum.specs.Numbers.{place, number_at}
-use Rattle.lie_datum.specs.RootList.{Roots, IsLoaded, IsNumber}
+use Rattle.lie_datum.specs.RootList.{RootDatum, IsLoaded, IsNumber}
 use Rattle.lie_datum.proofs.Entries.{within_or_past}
 use Rattle.lie_datum.proofs.NumberLemmas.{place_within, some_within}
 use Rattle.lie_datum.proofs.SignedRoots.{same_place}
@@ -31,7 +31,7 @@ row_of n i j k l p q e = ⊎_elim (λ m. absurd (less i j k l p m e)) (λ m. ⊎
     less : (i j k l : ℕ) → j < n → i < k → i * n + j ≡ k * n + l → ⊥
     less i j k l p m e = let w : suc i ≤ k = omega (arith, m) in let h = mul-le-mul_right n w in omega (arith, h, p, e)
 
-module _ (d : Roots) (m : ℕ) (count : m ≡ length d.positive) where
+module _ (d : RootDatum) (m : ℕ) (count : m ≡ length d.positive) where
   pub one_pair_place : (r s x y : ℤ) → IsNumber d r → IsNumber d s → IsNumber d x → IsNumber d y → pair_place m r s ≡ pair_place m x y → (r ≡ x) × (s ≡ y)
   one_pair_place r s x y a b f g e =
       let p = number r a in
@@ -140,7 +140,7 @@ module _ (d : Roots) (m : ℕ) (count : m ≡ length d.positive) where
     put_is = put_four
 
 -- ---- the places that have a pair
-module _ (d : Roots) (loaded : IsLoaded d) where
+module _ (d : RootDatum) (loaded : IsLoaded d) where
   pub pair_special : (b : Place) (r s : ℤ) → IsPairAt d b r s → (t : ℤ) × IsSpecial d b.first t b.sum × (b.part < 3)
   pair_special _ _ _ (own_pair r s k h) = (s, h, omega arith)
   pair_special _ _ _ (right_pair r s k h) = (s, h, omega arith)
@@ -245,31 +245,31 @@ module _ (d : Roots) (loaded : IsLoaded d) where
       }
 
 -- a value that fails
-pub failed : (d : Roots) (v : PairValues) (at : Place) (r s a e : ℤ) → IsFilled d v at → IsForced d (table_in v) at r s a e → HasNoSolution d r s a e → IsFirstFailure d r s a e
+pub failed : (d : RootDatum) (v : PairValues) (at : Place) (r s a e : ℤ) → IsFilled d v at → IsForced d (table_in v) at r s a e → HasNoSolution d r s a e → IsFirstFailure d r s a e
 failed d v at r s a e f g h = record { table = table_in v; signs = f.signs; at = at; before = f.before; forced = g; fails = h }
 
 -- an equation with other names for its numbers
-pub forced_as : (d : Roots) (n : Table) (at : Place) (r s a e a' e' : ℤ) → a' ≡ a → e' ≡ e → IsForced d n at r s a e → IsForced d n at r s a' e'
+pub forced_as : (d : RootDatum) (n : Table) (at : Place) (r s a e a' e' : ℤ) → a' ≡ a → e' ≡ e → IsForced d n at r s a e → IsForced d n at r s a' e'
 forced_as d n at r s a e a' e' f g h = subst (λ t. IsForced d n at r s t e') (sym f) (subst (IsForced d n at r s a) (sym g) h)
 
 -- the place of a positive root
-pub place_positive : (d : Roots) (k : ℤ) → IsNumber d k → pos 0 <ℤ k → (place (length d.positive) k < length d.positive) × (pos (suc (place (length d.positive) k)) ≡ k)
+pub place_positive : (d : RootDatum) (k : ℤ) → IsNumber d k → pos 0 <ℤ k → (place (length d.positive) k < length d.positive) × (pos (suc (place (length d.positive) k)) ≡ k)
 place_positive d (pos zero) n l = cc
 place_positive d (pos (suc j)) n l = let h = (place_within d (pos (suc j)) n).1 in (omega (arith, h), ap pos (omega arith))
 place_positive d (negsuc j) n l = absurd (omega (arith, ints, l))
 
 -- the root at a place before that of k, as the code names it
-pub number_before : (d : Roots) (k x : ℤ) (m n at : ℕ) → IsNumber d k → pos 0 <ℤ k → m ≡ length d.positive → n ≡ place m k → at < n → x ≡ number_at m at → x ≡ pos (suc at)
+pub number_before : (d : RootDatum) (k x : ℤ) (m n at : ℕ) → IsNumber d k → pos 0 <ℤ k → m ≡ length d.positive → n ≡ place m k → at < n → x ≡ number_at m at → x ≡ pos (suc at)
 number_before d k x m n at q l e f h g =
     let p = (place_positive d k q l).0 in
     let i : at < m = let s = f ∙ ap (λ t. place t k) e in omega (arith, h, s, p, e) in
     g ∙ number_at-low m at i
 
 -- the equations of the mixed pairs, with other names for their parts
-pub right_as : (d : Roots) (n : Table) (r s k x a e : ℤ) → x ≡ neg_ℤ k → a ≡ norm d k → e ≡ n r s *ℤ norm d r → IsSpecial d r s k → IsForced d n (at_part k r 1) s x a e
+pub right_as : (d : RootDatum) (n : Table) (r s k x a e : ℤ) → x ≡ neg_ℤ k → a ≡ norm d k → e ≡ n r s *ℤ norm d r → IsSpecial d r s k → IsForced d n (at_part k r 1) s x a e
 right_as d n r s k x a e f g h p = subst (λ t. IsForced d n (at_part k r 1) s t a e) (sym f) (forced_as d n (at_part k r 1) s (neg_ℤ k) (norm d k) (n r s *ℤ norm d r) a e g h (right r s k p))
 
-pub left_as : (d : Roots) (n : Table) (r s k x a e : ℤ) → x ≡ neg_ℤ k → a ≡ norm d k → e ≡ n r s *ℤ norm d s → IsSpecial d r s k → IsForced d n (at_part k r 2) x r a e
+pub left_as : (d : RootDatum) (n : Table) (r s k x a e : ℤ) → x ≡ neg_ℤ k → a ≡ norm d k → e ≡ n r s *ℤ norm d s → IsSpecial d r s k → IsForced d n (at_part k r 2) x r a e
 left_as d n r s k x a e f g h p = subst (λ t. IsForced d n (at_part k r 2) t r a e) (sym f) (forced_as d n (at_part k r 2) (neg_ℤ k) r (norm d k) (n r s *ℤ norm d s) a e g h (left r s k p))
 
 -- what follows from an Ok
@@ -278,5 +278,5 @@ ok_more E (Ok x) f h = f h
 ok_more E (Err e) f h = h
 
 -- there is a root at each place before the end
-pub number_low : (d : Roots) (k : ℤ) (at : ℕ) → IsNumber d k → pos 0 <ℤ k → at < place (length d.positive) k → IsNumber d (pos (suc at))
+pub number_low : (d : RootDatum) (k : ℤ) (at : ℕ) → IsNumber d k → pos 0 <ℤ k → at < place (length d.positive) k → IsNumber d (pos (suc at))
 number_low d k at n p l = some_within d.positive at (let h = (place_positive d k n p).0 in omega (arith, h, l))

@@ -3,7 +3,7 @@
 use Rattle.std.proofs.Common.{◌≡◌, ◌≢◌, ◌+◌, ℤ, pos, neg_ℤ, ◌+ℤ◌, ◌*ℤ◌, ◌≤ℤ◌, ◌<ℤ◌, refl, sym, ap, subst, ◌∙◌, arith, ◌⊎◌, inl, inr, ⊎_elim}
 use Rattle.std.proofs.lemmas.Int.{ints, by_lt_z}
 use Rattle.lie_datum.specs.Vectors.{plus}
-use Rattle.lie_datum.specs.RootList.{Roots, IsLoaded, IsNumber, root_of}
+use Rattle.lie_datum.specs.RootList.{RootDatum, IsLoaded, IsNumber, root_of}
 use Rattle.lie_base.proofs.Whole.{mul-one}
 use Rattle.lie_datum.proofs.NormBound.{product_positive}
 use Rattle.lie_datum.proofs.SignedRoots.{root_is, number_is}
@@ -15,7 +15,7 @@ use Rattle.lie_const.proofs.Decisions.{root_or, string_exists, extraspecial_exis
 use Rattle.lie_const.proofs.Norms.{norm_positive, gap_positive, cancel}
 use Rattle.lie_const.proofs.PlaceLemmas.{Precedes-trans, place_induction, special_positive, second_before}
 
-module _ (d : Roots) (loaded : IsLoaded d) where
+module _ (d : RootDatum) (loaded : IsLoaded d) where
   -- a sum, or none
   pub sum_or : (p q : ℤ) → IsNumber d p → IsNumber d q → ((k : ℤ) × IsSum d p q k) ⊎ ((k : ℤ) → ¬ IsSum d p q k)
   sum_or p q m n = ⊎_elim

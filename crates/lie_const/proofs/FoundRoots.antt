@@ -7,7 +7,7 @@ use Rattle.std.specs.Option.{option_map, option_map_or}
 use Rattle.lie_datum.specs.Vectors.{Vector, plus, minus}
 use Rattle.lie_datum.specs.declared.root_pair.Root.{Root}
 use Rattle.lie_datum.specs.RootDatum.{IsRoot}
-use Rattle.lie_datum.specs.RootList.{Roots, IsLoaded, IsNumber, NamesRoot, root_of, all_roots, length2}
+use Rattle.lie_datum.specs.RootList.{RootDatum, IsLoaded, IsNumber, NamesRoot, root_of, all_roots, length2}
 use Rattle.lie_base.proofs.Members.{In, here, there}
 use Rattle.lie_datum.proofs.NumberLemmas.{within, some_within, some_map}
 use Rattle.lie_datum.proofs.LoadedLaws.{all_only, all_in}
@@ -72,7 +72,7 @@ from_same_vector v w e = by (slice_cmp int_cmp v w) refl e
 abbrev no_root : Root
 no_root = record { coeffs = []; co_coeffs = [] }
 
-module _ (d : Roots) (loaded : IsLoaded d) where
+module _ (d : RootDatum) (loaded : IsLoaded d) where
   pub find_root_is : (r : Root) (v : Vector) → IsRoot d.base r → r.coeffs ≡ v → find_root d v ≡ Some r
   find_root_is r v p e = find_is (λ s. same_vector s.coeffs v) (all_roots d) r (all_in d loaded r p) (ap (λ t. same_vector t v) e ∙ same_vector_refl v)
       (λ s q h. same_coeffs d loaded s r (all_only d loaded s q) p (from_same_vector s.coeffs v h ∙ sym e))

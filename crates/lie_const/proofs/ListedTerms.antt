@@ -3,7 +3,7 @@ use Rattle.std.proofs.Common.{◌≡◌, ℕ, zero, suc, ◌+◌, ◌*◌, ◌/�
 use Rattle.std.proofs.Math.Nat.{mul-le-mul_right, div-lt_iff_lt-mul}
 use Rattle.std.proofs.lemmas.List.{get_or_append_left, get_or-append-add}
 use Rattle.lie_datum.specs.Numbers.{place, number_at}
-use Rattle.lie_datum.specs.RootList.{Roots, IsNumber}
+use Rattle.lie_datum.specs.RootList.{RootDatum, IsNumber}
 use Rattle.lie_datum.proofs.Entries.{within_or_past}
 use Rattle.lie_datum.proofs.NumberLemmas.{place_within, numbered_at}
 use Rattle.lie_const.specs.declared.term.Term.{Term}
@@ -24,7 +24,7 @@ place_split (suc n) at l = (row, omega arith, omega arith)
     row : at / suc n < suc n
     row = (div-lt_iff_lt-mul (omega arith)).1 l
 
-module _ (d : Roots) (n : Table) (m : ℕ) (count : m ≡ length d.positive) where
+module _ (d : RootDatum) (n : Table) (m : ℕ) (count : m ≡ length d.positive) where
   -- the pair at a place
   pub pair_at : (at : ℕ) → at < 2 * m * (2 * m) → IsNumber d (number_at m (at / (2 * m))) × IsNumber d (number_at m (at % (2 * m))) × (pair_place m (number_at m (at / (2 * m))) (number_at m (at % (2 * m))) ≡ at)
   pair_at at l =

@@ -6,7 +6,7 @@ use Rattle.std.specs.Option.{option_map_or}
 use Rattle.lie_datum.specs.Vectors.{Vector}
 use Rattle.lie_datum.specs.declared.root_pair.Root.{Root}
 use Rattle.lie_datum.specs.RootDatum.{IsRoot}
-use Rattle.lie_datum.specs.RootList.{Roots, IsLoaded, IsNumber, root_of, all_roots, length2}
+use Rattle.lie_datum.specs.RootList.{RootDatum, IsLoaded, IsNumber, root_of, all_roots, length2}
 use Rattle.lie_base.proofs.RingSolver.{ring, var, neg, ◌⊕◌, ◌⊗◌}
 use Rattle.lie_base.proofs.Members.{In, here, there}
 use Rattle.lie_datum.proofs.Squares.{factor_not_negative}
@@ -23,7 +23,7 @@ found test (r ∷ rs) o e P h Q some none = by (test r) refl e (λ f. found test
     by true g f k = subst Q f (some r (h r (here refl)))
     by false g f k = k f
 
-module _ (d : Roots) (loaded : IsLoaded d) where
+module _ (d : RootDatum) (loaded : IsLoaded d) where
   pub norm_positive : (k : ℤ) → IsNumber d k → pos 0 <ℤ norm d k
   norm_positive k n = length_positive d loaded (root_of d k) (root_is d loaded k n)
 

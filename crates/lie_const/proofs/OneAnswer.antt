@@ -4,14 +4,14 @@ use Rattle.std.proofs.lemmas.Int.{ints}
 use Rattle.std.specs.List.{AllZip}
 use Rattle.lie_datum.specs.Vectors.{Vector, plus, times}
 use Rattle.lie_datum.specs.Numbers.{place}
-use Rattle.lie_datum.specs.RootList.{Roots, IsLoaded, IsNumber}
+use Rattle.lie_datum.specs.RootList.{RootDatum, IsLoaded, IsNumber}
 use Rattle.lie_datum.proofs.Entries.{within_or_past}
 use Rattle.lie_datum.proofs.NumberLemmas.{place_within}
 use Rattle.lie_datum.proofs.SignedRoots.{same_place}
 use Rattle.lie_const.specs.declared.term.Term.{Term}
 use Rattle.lie_const.specs.declared.faults.ConstFault.TheVariants.{NoMemory, Constant, Fraction}
 use Rattle.lie_const.specs.StructureConstants.{Table, coeffs_of, Place, Precedes, IsForced, HasSigns, HoldsAt, StandsFor, IsFirstFailure}
-use Rattle.lie_const.specs.CommutatorTerms.{chain, sign, factorial, coefficient, IsValue, IsFraction, IsPair, IsTerm, AreTerms, IsFirstFraction, term_exponents, value_at, number_of}
+use Rattle.lie_const.specs.CommutatorTerms.{string_product, sign, factorial, coefficient, IsValue, IsFraction, IsPair, IsTerm, AreTerms, IsFirstFraction, term_exponents, value_at, number_of}
 use Rattle.lie_const.specs.ConstantTables.{ConstantTable, value_of, terms_of, LoadsOneWay}
 use Rattle.lie_base.proofs.RingSolver.{ring, var, neg, ◌⊗◌}
 use Rattle.lie_const.proofs.PlaceLemmas.{compare_places, Precedes-trans, pair_sum}
@@ -37,7 +37,7 @@ factorial_positive (suc n) = let h = factorial_positive n in product (factorial 
     product m l = omega (arith, l)
 
 -- a fraction has a number above 0 below its line
-below_positive : (d : Roots) (n : Table) (u v : Vector) (i j : ℕ) → 0 < (coefficient d n u v i j).below
+below_positive : (d : RootDatum) (n : Table) (u v : Vector) (i j : ℕ) → 0 < (coefficient d n u v i j).below
 below_positive d n u v i (suc zero) = factorial_positive i
 below_positive d n u v (suc zero) zero = factorial_positive 0
 below_positive d n u v (suc zero) (suc (suc j)) = factorial_positive (suc (suc j))
@@ -54,7 +54,7 @@ below_positive d n u v (suc (suc (suc (suc i)))) zero = omega arith
 below_positive d n u v (suc (suc (suc (suc i)))) (suc (suc j)) = omega arith
 
 -- ---- the first failure is one, and none comes where a table stands
-module _ (d : Roots) (loaded : IsLoaded d) where
+module _ (d : RootDatum) (loaded : IsLoaded d) where
   -- a table that holds up to the place of a failure excludes it
   failure_excluded : (n : Table) (r s a e : ℤ) → (f : IsFirstFailure d r s a e) → HasSigns d n → ((c : Place) → Precedes c f.at → HoldsAt d n c) → HoldsAt d n f.at → ⊥
   failure_excluded n r s a e f signs before here =
@@ -98,16 +98,16 @@ module _ (d : Roots) (loaded : IsLoaded d) where
             (⊎_elim (λ o. value_opposite d loaded m x y v a.0 b.0 b.1 o ∙ sym (value_opposite d loaded n x y v a.0 b.0 b.1 o))
             (λ o. value_is d loaded m x y v a.0 b.0 b.1 o ∙ unique d loaded m n ms ns x y a.0 b.0 o ∙ sym (value_is d loaded n x y v a.0 b.0 b.1 o)) (equal_or y (neg_ℤ x)))
 
-    chain_same : (u v : Vector) (i : ℕ) → chain d m u v i ≡ chain d n u v i
-    chain_same u v zero = refl
-    chain_same u v (suc i) = ap (λ t. t *ℤ value_at d m u (plus (times (pos i) u) v)) (chain_same u v i) ∙ ap (λ t. chain d n u v i *ℤ t) (value_same u (plus (times (pos i) u) v))
+    string_product_same : (u v : Vector) (i : ℕ) → string_product d m u v i ≡ string_product d n u v i
+    string_product_same u v zero = refl
+    string_product_same u v (suc i) = ap (λ t. t *ℤ value_at d m u (plus (times (pos i) u) v)) (string_product_same u v i) ∙ ap (λ t. string_product d n u v i *ℤ t) (value_same u (plus (times (pos i) u) v))
 
     coefficient_same : (u v : Vector) (i j : ℕ) → coefficient d m u v i j ≡ coefficient d n u v i j
-    coefficient_same u v i (suc zero) = ap (λ t. record { above = t; below = factorial i }) (chain_same u v i)
-    coefficient_same u v (suc zero) zero = ap (λ t. record { above = sign 0 *ℤ t; below = factorial 0 }) (chain_same v u 0)
-    coefficient_same u v (suc zero) (suc (suc j)) = ap (λ t. record { above = sign (suc (suc j)) *ℤ t; below = factorial (suc (suc j)) }) (chain_same v u (suc (suc j)))
-    coefficient_same u v (suc (suc (suc zero))) (suc (suc zero)) = ap (λ t. record { above = t; below = 6 }) (chain_same (plus u v) u 2)
-    coefficient_same u v (suc (suc zero)) (suc (suc (suc zero))) = ap (λ t. record { above = negsuc 1 *ℤ t; below = 6 }) (chain_same (plus v u) v 2)
+    coefficient_same u v i (suc zero) = ap (λ t. record { above = t; below = factorial i }) (string_product_same u v i)
+    coefficient_same u v (suc zero) zero = ap (λ t. record { above = sign 0 *ℤ t; below = factorial 0 }) (string_product_same v u 0)
+    coefficient_same u v (suc zero) (suc (suc j)) = ap (λ t. record { above = sign (suc (suc j)) *ℤ t; below = factorial (suc (suc j)) }) (string_product_same v u (suc (suc j)))
+    coefficient_same u v (suc (suc (suc zero))) (suc (suc zero)) = ap (λ t. record { above = t; below = 6 }) (string_product_same (plus u v) u 2)
+    coefficient_same u v (suc (suc zero)) (suc (suc (suc zero))) = ap (λ t. record { above = negsuc 1 *ℤ t; below = 6 }) (string_product_same (plus v u) v 2)
     coefficient_same u v zero zero = refl
     coefficient_same u v zero (suc (suc j)) = refl
     coefficient_same u v (suc (suc zero)) zero = refl

@@ -1,7 +1,7 @@
 -- Places in the order of determination: an order in which one descends only finitely often, and the pair of each place.
 use Rattle.std.proofs.Common.{◌≡◌, ℕ, zero, suc, ◌<◌, ◌≤◌, ℤ, pos, negsuc, neg_ℤ, ◌≤ℤ◌, ◌<ℤ◌, refl, sym, ap, subst, ◌∙◌, arith, ◌⊎◌, inl, inr, ⊎_elim, unsigned_abs}
 use Rattle.std.proofs.lemmas.Int.{ints}
-use Rattle.lie_datum.specs.RootList.{Roots, IsLoaded, root_of}
+use Rattle.lie_datum.specs.RootList.{RootDatum, IsLoaded, root_of}
 use Rattle.lie_datum.proofs.SignedRoots.{root_is, same_number, same_coeffs}
 use Rattle.lie_datum.proofs.Entries.{within_or_past}
 use Rattle.lie_const.specs.StructureConstants.{Place, Precedes, at_part, IsSum, IsSpecial}
@@ -129,7 +129,7 @@ abs_less (negsuc a) y p l = absurd (omega (arith, ints, p))
 abbrev pub IsTurned : ℤ → ℤ → ℤ → ℤ → Type 0
 IsTurned p q x y = ((x ≡ p) × (y ≡ q)) ⊎ (((x ≡ q) × (y ≡ p)) ⊎ (((x ≡ neg_ℤ p) × (y ≡ neg_ℤ q)) ⊎ ((x ≡ neg_ℤ q) × (y ≡ neg_ℤ p))))
 
-module _ (d : Roots) (loaded : IsLoaded d) where
+module _ (d : RootDatum) (loaded : IsLoaded d) where
   -- a pair has one sum
   pub one_sum : (r s j k : ℤ) → IsSum d r s j → IsSum d r s k → j ≡ k
   one_sum r s j k h g = same_number d loaded j k h.number g.number (same_coeffs d loaded (root_of d j) (root_of d k) (root_is d loaded j h.number) (root_is d loaded k g.number) (h.is ∙ sym g.is))

@@ -2,7 +2,7 @@
 use Rattle.std.proofs.Common.{◌≡◌, ◌≢◌, ℕ, ◌+◌, ◌<◌, ℤ, pos, neg_ℤ, ◌+ℤ◌, ◌*ℤ◌, refl, sym, ap, subst, ◌∙◌, arith, ◌⊎◌, inl, inr, ⊎_elim, unsigned_abs}
 use Rattle.std.proofs.lemmas.Int.{ints}
 use Rattle.lie_datum.specs.Vectors.{Vector}
-use Rattle.lie_datum.specs.RootList.{Roots, IsLoaded, IsNumber, IsString, IsRun, root_of}
+use Rattle.lie_datum.specs.RootList.{RootDatum, IsLoaded, IsNumber, IsString, IsRun, root_of}
 use Rattle.lie_datum.proofs.Entries.{within_or_past}
 use Rattle.lie_const.specs.StructureConstants.{Table, IsSum, IsSpecial, IsExtraspecial, norm, gap, Place, Precedes, IsForced, extra, own, right, left, HasSigns, HoldsAt}
 use Rattle.lie_const.specs.Filling.{IsPairAt, own_pair, right_pair, left_pair, next, IsUnitSolution}
@@ -19,13 +19,13 @@ pub record IsSameEquation (r s a e r' s' a' e' : ℤ) : Type 0 where
   pub value : e ≡ e'
 
 -- a run has one end
-one_run : (d : Roots) (r s : Vector) (m n : ℕ) → IsRun d r s m → IsRun d r s n → m ≡ n
+one_run : (d : RootDatum) (r s : Vector) (m n : ℕ) → IsRun d r s m → IsRun d r s n → m ≡ n
 one_run d r s m n x y = ⊎_elim (λ l. absurd (further m n x y l)) (λ l. ⊎_elim (λ k. absurd (further n m y x k)) (λ k. omega (arith, l, k)) (within_or_past n m)) (within_or_past m n)
   where
     further : (m n : ℕ) → IsRun d r s m → IsRun d r s n → m < n → ⊥
     further m n x y l = x.ends (y.roots (m + 1) (omega arith) (omega (arith, l)))
 
-module _ (d : Roots) (loaded : IsLoaded d) (n : Table) where
+module _ (d : RootDatum) (loaded : IsLoaded d) (n : Table) where
   -- an equation, with its place as a variable
   pub data IsForm (at : Place) (r s a e : ℤ) : Type 0 where
     extra_form : (p q : ℕ) → at.part ≡ 0 → at.first ≡ r → IsExtraspecial d r s at.sum → IsString d (root_of d r) (root_of d s) p q → a ≡ pos 1 → e ≡ pos (p + 1) → IsForm at r s a e
@@ -92,19 +92,19 @@ module _ (d : Roots) (loaded : IsLoaded d) (n : Table) where
   one_equation at r s a e r' s' a' e' h g = one_form at r s a e r' s' a' e' (form_of at r s a e h) (form_of at r' s' a' e' g)
 
 -- the pair of an equation is that of its place
-pub forced_pair : (d : Roots) (n : Table) (at : Place) (r s a e : ℤ) → IsForced d n at r s a e → IsPairAt d at r s
+pub forced_pair : (d : RootDatum) (n : Table) (at : Place) (r s a e : ℤ) → IsForced d n at r s a e → IsPairAt d at r s
 forced_pair d n _ _ _ _ _ (extra r s k p q x t) = own_pair r s k x.special
 forced_pair d n _ _ _ _ _ (own r s k r0 s0 h x o) = own_pair r s k h
 forced_pair d n _ _ _ _ _ (right r s k h) = right_pair r s k h
 forced_pair d n _ _ _ _ _ (left r s k h) = left_pair r s k h
 
 -- the string of one root along another is one
-pub one_string : (d : Roots) (r s : ℤ) (p q p' q' : ℕ) → IsString d (root_of d r) (root_of d s) p q → IsString d (root_of d r) (root_of d s) p' q' → p ≡ p'
+pub one_string : (d : RootDatum) (r s : ℤ) (p q p' q' : ℕ) → IsString d (root_of d r) (root_of d s) p q → IsString d (root_of d r) (root_of d s) p' q' → p ≡ p'
 one_string d r s p q p' q' t u = one_run d _ _ p p' t.0 u.0
 
 -- ---- a value is put
 -- n' is n but for the value v at (p, q), and what the two sign rules give from it
-pub record IsPut (d : Roots) (n n' : Table) (p q v : ℤ) : Type 0 where
+pub record IsPut (d : RootDatum) (n n' : Table) (p q v : ℤ) : Type 0 where
   pub own : n' p q ≡ v
   pub swapped : n' q p ≡ neg_ℤ v
   pub opposite : n' (neg_ℤ p) (neg_ℤ q) ≡ neg_ℤ v
@@ -145,7 +145,7 @@ turned_opposite p q x y (inr (inl e)) = inr (inr (inr (back x q e.0, back y p e.
 turned_opposite p q x y (inr (inr (inl e))) = inl (back x (neg_ℤ p) e.0 ∙ neg_neg p, back y (neg_ℤ q) e.1 ∙ neg_neg q)
 turned_opposite p q x y (inr (inr (inr e))) = inr (inl (back x (neg_ℤ q) e.0 ∙ neg_neg q, back y (neg_ℤ p) e.1 ∙ neg_neg p))
 
-module _ (d : Roots) (loaded : IsLoaded d) (n n' : Table) (ns : HasSigns d n) (at : Place) (p q v : ℤ) (pair : IsPairAt d at p q) (put : IsPut d n n' p q v) where
+module _ (d : RootDatum) (loaded : IsLoaded d) (n n' : Table) (ns : HasSigns d n) (at : Place) (p q v : ℤ) (pair : IsPairAt d at p q) (put : IsPut d n n' p q v) where
   -- the pair has a sum, and so have the other three
   turned_sum : (x y : ℤ) → IsTurned p q x y → (z : ℤ) × IsSum d x y z
   turned_sum x y t = by (pair_sum d loaded at p q pair) t

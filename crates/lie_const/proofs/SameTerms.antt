@@ -12,13 +12,13 @@ use Rattle.std.specs.declared.cmp.Ordering.{Ordering}
 use Rattle.std.specs.declared.cmp.Ordering.TheVariants.{Less, Equal, Greater}
 use Rattle.lie_datum.specs.Vectors.{Vector, plus, times, minus}
 use Rattle.lie_datum.specs.declared.root_pair.Root.{Root}
-use Rattle.lie_datum.specs.RootList.{Roots, IsLoaded, IsNumber}
+use Rattle.lie_datum.specs.RootList.{RootDatum, IsLoaded, IsNumber}
 use Rattle.lie_datum.proofs.LoadedLaws.{twice_opposite}
 use Rattle.lie_datum.proofs.NumberLemmas.{some_within}
 use Rattle.lie_datum.proofs.RootOrder.{slices_total, equal_slices}
 use Rattle.lie_datum.proofs.SignedRoots.{opposite_number}
 use Rattle.lie_const.specs.StructureConstants.{Table, coeffs_of, same_vector, StandsFor}
-use Rattle.lie_const.specs.CommutatorTerms.{Fraction, number_of, value_at, chain, factorial, sign, coefficient, IsValue, term_exponents, IsTerm, AreTerms}
+use Rattle.lie_const.specs.CommutatorTerms.{Fraction, number_of, value_at, string_product, factorial, sign, coefficient, IsValue, term_exponents, IsTerm, AreTerms}
 use Rattle.lie_const.specs.declared.term.Term.{Term}
 use Rattle.lie_const.proofs.Norms.{cancel}
 use Rattle.lie_const.proofs.Unique.{unique}
@@ -50,7 +50,7 @@ none_of false false true e = absurd cc
 none_of false false false e = (refl, refl, refl)
 
 -- the number of a root that is found names it
-module _ (d : Roots) where
+module _ (d : RootDatum) where
   named_above : (v : Vector) (i : ℕ) → position (λ r. same_vector r.coeffs v) d.positive ≡ Some i → IsNumber d (pos (i + 1)) × (coeffs_of d (pos (i + 1)) ≡ v)
   named_above v i e =
       let z : Root = record { coeffs = []; co_coeffs = [] } in
@@ -85,7 +85,7 @@ factorial_positive zero = omega arith
 factorial_positive (suc n) = product_some (suc n) (factorial n) (omega arith) (factorial_positive n)
 
 -- two tables that stand for one datum
-module _ (d : Roots) (loaded : IsLoaded d) (m n : Table) (a : StandsFor d m) (b : StandsFor d n) where
+module _ (d : RootDatum) (loaded : IsLoaded d) (m n : Table) (a : StandsFor d m) (b : StandsFor d n) where
   same_value_at : (u v : Vector) → value_at d m u v ≡ value_at d n u v
   same_value_at u v = by (is_eq (int_cmp (number_of d u) (pos 0)) || is_eq (int_cmp (number_of d v) (pos 0)) || same_vector u (minus v)) refl
     where
@@ -101,16 +101,16 @@ module _ (d : Roots) (loaded : IsLoaded d) (m n : Table) (a : StandsFor d m) (b 
           let is : v ≡ minus u = sym y.1 ∙ ap (coeffs_of d) f ∙ ap (λ (r : Root). r.coeffs) turned.1 ∙ ap minus x.1 in
           let same = same_itself u (minus v) (sym (minus_minus u) ∙ ap minus (sym is)) in cc))
 
-  same_chain : (r s : Vector) (i : ℕ) → chain d m r s i ≡ chain d n r s i
-  same_chain r s zero = refl
-  same_chain r s (suc i) = ap₂ ◌*ℤ◌ (same_chain r s i) (same_value_at r (plus (times (pos i) r) s))
+  same_string_product : (r s : Vector) (i : ℕ) → string_product d m r s i ≡ string_product d n r s i
+  same_string_product r s zero = refl
+  same_string_product r s (suc i) = ap₂ ◌*ℤ◌ (same_string_product r s i) (same_value_at r (plus (times (pos i) r) s))
 
   pub same_coefficient : (r s : Vector) (i j : ℕ) → coefficient d m r s i j ≡ coefficient d n r s i j
-  same_coefficient r s i (suc zero) = ap (λ (x : ℤ). let q : Fraction = record { above = x; below = factorial i } in q) (same_chain r s i)
-  same_coefficient r s (suc zero) zero = ap (λ (x : ℤ). let q : Fraction = record { above = pos 1 *ℤ x; below = factorial 0 } in q) (same_chain s r 0)
-  same_coefficient r s (suc zero) (suc (suc j)) = ap (λ (x : ℤ). let q : Fraction = record { above = sign (suc (suc j)) *ℤ x; below = factorial (suc (suc j)) } in q) (same_chain s r (suc (suc j)))
-  same_coefficient r s (suc (suc (suc zero))) (suc (suc zero)) = ap (λ (x : ℤ). let q : Fraction = record { above = x; below = 6 } in q) (same_chain (plus r s) r 2)
-  same_coefficient r s (suc (suc zero)) (suc (suc (suc zero))) = ap (λ (x : ℤ). let q : Fraction = record { above = negsuc 1 *ℤ x; below = 6 } in q) (same_chain (plus s r) s 2)
+  same_coefficient r s i (suc zero) = ap (λ (x : ℤ). let q : Fraction = record { above = x; below = factorial i } in q) (same_string_product r s i)
+  same_coefficient r s (suc zero) zero = ap (λ (x : ℤ). let q : Fraction = record { above = pos 1 *ℤ x; below = factorial 0 } in q) (same_string_product s r 0)
+  same_coefficient r s (suc zero) (suc (suc j)) = ap (λ (x : ℤ). let q : Fraction = record { above = sign (suc (suc j)) *ℤ x; below = factorial (suc (suc j)) } in q) (same_string_product s r (suc (suc j)))
+  same_coefficient r s (suc (suc (suc zero))) (suc (suc zero)) = ap (λ (x : ℤ). let q : Fraction = record { above = x; below = 6 } in q) (same_string_product (plus r s) r 2)
+  same_coefficient r s (suc (suc zero)) (suc (suc (suc zero))) = ap (λ (x : ℤ). let q : Fraction = record { above = negsuc 1 *ℤ x; below = 6 } in q) (same_string_product (plus s r) s 2)
   same_coefficient r s i j = refl
 
   below_positive : (r s : Vector) (i j : ℕ) → 0 < (coefficient d n r s i j).below

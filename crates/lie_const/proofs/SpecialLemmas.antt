@@ -1,7 +1,7 @@
 -- The special pair of a first root and a sum, from a name for the difference; and numbers of roots as the code tests them.
 use Rattle.std.proofs.Common.{◌≡◌, ℕ, ◌≤◌, ℤ, neg_ℤ, length, Option, None, Some, ap, subst, ◌∙◌, arith, unsigned_abs}
 use Rattle.lie_datum.specs.Vectors.{plus}
-use Rattle.lie_datum.specs.RootList.{Roots, IsLoaded, IsNumber, NamesRoot, root_of}
+use Rattle.lie_datum.specs.RootList.{RootDatum, IsLoaded, IsNumber, NamesRoot, root_of}
 use Rattle.lie_datum.proofs.SignedRoots.{root_is}
 use Rattle.lie_datum.proofs.NumberLemmas.{place_within}
 use Rattle.lie_const.specs.StructureConstants.{coeffs_of, IsSum, IsSpecial}
@@ -10,13 +10,13 @@ use Rattle.lie_const.proofs.Decisions.{same_part}
 use Rattle.lie_const.proofs.PlaceLemmas.{abs_neg}
 
 -- the absolute value of a number is at most the number of positive roots
-pub abs_number : (d : Roots) (m : ℕ) (k : ℤ) → m ≡ length d.positive → IsNumber d k → unsigned_abs k ≤ m
+pub abs_number : (d : RootDatum) (m : ℕ) (k : ℤ) → m ≡ length d.positive → IsNumber d k → unsigned_abs k ≤ m
 abs_number d m k e n = let l = (place_within d k n).1 in omega (arith, l, e)
 
-pub abs_opposite : (d : Roots) (m : ℕ) (x k : ℤ) → m ≡ length d.positive → x ≡ neg_ℤ k → IsNumber d k → unsigned_abs x ≤ m
+pub abs_opposite : (d : RootDatum) (m : ℕ) (x k : ℤ) → m ≡ length d.positive → x ≡ neg_ℤ k → IsNumber d k → unsigned_abs x ≤ m
 abs_opposite d m x k e f n = let l = (place_within d k n).1 in let g = ap unsigned_abs f ∙ abs_neg k in omega (arith, l, e, g)
 
-module _ (d : Roots) (loaded : IsLoaded d) (r k : ℤ) (m : IsNumber d r) (n : IsNumber d k) where
+module _ (d : RootDatum) (loaded : IsLoaded d) (r k : ℤ) (m : IsNumber d r) (n : IsNumber d k) where
   -- s = k + (-r)
   turned : (s : ℤ) → IsSum d r s k → IsSum d k (neg_ℤ r) s
   turned s h = sum_turn d loaded s r k (sum_swap d loaded r s k h)

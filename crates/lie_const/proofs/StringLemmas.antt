@@ -2,13 +2,13 @@
 use Rattle.std.proofs.Common.{◌≡◌, ℕ, zero, suc, ◌≤◌, ℤ, pos, sym, arith}
 use Rattle.lie_datum.specs.Vectors.{plus, times, minus}
 use Rattle.lie_datum.specs.RootDatum.{IsRoot, opposite}
-use Rattle.lie_datum.specs.RootList.{Roots, IsLoaded, IsNumber, IsString, IsRootVector, root_of}
+use Rattle.lie_datum.specs.RootList.{RootDatum, IsLoaded, IsNumber, IsString, IsRootVector, root_of}
 use Rattle.lie_datum.proofs.Roots.{root_lengths}
 use Rattle.lie_datum.proofs.LoadedLaws.{short, second, opposite_root}
 use Rattle.lie_datum.proofs.SignedRoots.{root_is}
 use Rattle.lie_datum.proofs.RunLemmas.{times_none, run_short}
 
-module _ (d : Roots) (loaded : IsLoaded d) where
+module _ (d : RootDatum) (loaded : IsLoaded d) where
   pub string_short : (r s : ℤ) (p q : ℕ) → IsNumber d r → IsNumber d s → IsString d (root_of d r) (root_of d s) p q → p ≤ 3
   string_short r s p q m n t = run_short d (second d loaded) (opposite (root_of d r)) (root_of d s) p o members
     where

@@ -3,7 +3,7 @@ use Rattle.std.proofs.Common.{◌≡◌, ◌≢◌, ℕ, zero, suc, ℤ, pos, ne
 use Rattle.std.proofs.lemmas.Int.{ints, by_lt_z}
 use Rattle.std.proofs.Math.IntN.{+ℤ_comm}
 use Rattle.lie_datum.specs.Vectors.{Vector, plus, times, entry}
-use Rattle.lie_datum.specs.RootList.{Roots, IsLoaded, IsNumber, root_of, height}
+use Rattle.lie_datum.specs.RootList.{RootDatum, IsLoaded, IsNumber, root_of, height}
 use Rattle.lie_datum.proofs.Entries.{entry-plus, entry-times, length-plus, length-times, same_entries}
 use Rattle.lie_datum.proofs.Roots.{root_lengths}
 use Rattle.lie_datum.proofs.Turns.{not_even}
@@ -25,7 +25,7 @@ from_entries u v w p q r h = same_entries u (plus v w) (p ∙ sym (length-plus v
 to_entries : (u v w : Vector) → u ≡ plus v w → IsEntrySum u v w
 to_entries u v w e j = ap (λ t. entry t j) e ∙ entry-plus v w j
 
-module _ (d : Roots) (loaded : IsLoaded d) where
+module _ (d : RootDatum) (loaded : IsLoaded d) where
   pub long : (k : ℤ) → IsNumber d k → length (coeffs_of d k) ≡ 8
   long k n = (root_lengths d.base (short d loaded) loaded.axioms.input.corank (root_of d k) (root_is d loaded k n)).0
 
@@ -87,7 +87,7 @@ module _ (d : Roots) (loaded : IsLoaded d) where
   right_before r s k h p q = left_before s r k (sum_swap r s k h) q p
 
 -- a number of a root is positive or negative
-pub sign_of : (d : Roots) (k : ℤ) → IsNumber d k → (pos 0 <ℤ k) ⊎ (k <ℤ pos 0)
+pub sign_of : (d : RootDatum) (k : ℤ) → IsNumber d k → (pos 0 <ℤ k) ⊎ (k <ℤ pos 0)
 sign_of d (pos zero) n = cc
 sign_of d (pos (suc j)) n = inl (omega (arith, ints))
 sign_of d (negsuc j) n = inr (omega (arith, ints))

@@ -13,7 +13,7 @@ use Rattle.std.specs.Option.{is_some}
 use Rattle.lie_datum.specs.Vectors.{Vector, pairing, plus, times, combination}
 use Rattle.lie_datum.specs.declared.root_pair.Root.{Root}
 use Rattle.lie_datum.specs.RootDatum.{IsRoot, root_pairing, covector, opposite}
-use Rattle.lie_datum.specs.RootList.{Roots, IsLoaded, IsRootVector, root_of}
+use Rattle.lie_datum.specs.RootList.{RootDatum, IsLoaded, IsRootVector, root_of}
 use Rattle.lie_base.proofs.Members.{In, here, there}
 use Rattle.lie_datum.proofs.Turns.{pairing-combination-plus, pairing-combination-times}
 use Rattle.lie_datum.proofs.NormBound.{pairing_small}
@@ -21,7 +21,7 @@ use Rattle.lie_datum.proofs.LoadedLaws.{self, second}
 use Rattle.lie_datum.proofs.SignedRoots.{root_is, number_is, same_number, opposite_number}
 use Rattle.lie_const.specs.declared.term.Term.{Term}
 use Rattle.lie_const.specs.StructureConstants.{Table, IsSum, find_root}
-use Rattle.lie_const.specs.CommutatorTerms.{chain, sign, factorial, coefficient, exponents, term_vector, term_exponents, IsTerm, IsFraction, IsPair}
+use Rattle.lie_const.specs.CommutatorTerms.{string_product, sign, factorial, coefficient, exponents, term_vector, term_exponents, IsTerm, IsFraction, IsPair}
 use Rattle.lie_const.proofs.SumLemmas.{neg_neg, not_double, not_opposite}
 use Rattle.lie_const.proofs.FoundRoots.{find_root_none}
 
@@ -39,7 +39,7 @@ exponents_positive =
     (in_cons P (3, 2) [] (one 3 2 (omega arith) (omega arith)) (λ e q. elim q [ ])))))))
 
 -- ---- where r + s is no root, no i r + j s is
-module _ (d : Roots) (loaded : IsLoaded d) (r s : ℤ) (pair : IsPair d r s) (none : (k : ℤ) → ¬ IsSum d r s k) where
+module _ (d : RootDatum) (loaded : IsLoaded d) (r s : ℤ) (pair : IsPair d r s) (none : (k : ℤ) → ¬ IsSum d r s k) where
   R : Root
   R = root_of d r
 
@@ -122,9 +122,9 @@ module _ (d : Roots) (loaded : IsLoaded d) (r s : ℤ) (pair : IsPair d r s) (no
   no_terms = none_of exponents exponents_positive
 
 -- ---- the fraction of each (i, j)
-module _ (d : Roots) (n : Table) (r s : Vector) where
+module _ (d : RootDatum) (n : Table) (r s : Vector) where
   -- (1, j) for j other than 1
-  pub coefficient-one : (j : ℕ) → j ≢ 1 → coefficient d n r s 1 j ≡ record { above = sign j *ℤ chain d n s r j; below = factorial j }
+  pub coefficient-one : (j : ℕ) → j ≢ 1 → coefficient d n r s 1 j ≡ record { above = sign j *ℤ string_product d n s r j; below = factorial j }
   coefficient-one zero o = refl
   coefficient-one (suc zero) o = absurd (o refl)
   coefficient-one (suc (suc j)) o = refl
@@ -147,7 +147,7 @@ module _ (d : Roots) (n : Table) (r s : Vector) where
   coefficient-other (suc (suc (suc (suc i)))) (suc (suc j)) a b c e = refl
 
 -- ---- the list of terms, one (i, j) after another
-module _ (d : Roots) (n : Table) (r s : ℤ) where
+module _ (d : RootDatum) (n : Table) (r s : ℤ) where
   abbrev pub has_root : ℕ × ℕ → Bool
   has_root e = is_some (find_root d (term_vector d r s e))
 
@@ -192,7 +192,7 @@ passed_front p (x ∷ xs) (suc k) t e l h = by (p x) t l h (λ t l h. passed_fro
     by false t l h f = f t l h
 
 -- the first (i, j) whose term isn't whole
-pub first_in_pair : (d : Roots) (n : Table) (r s : ℤ) (k : ℕ) (ts : List Term) (i j : ℕ) → k < length exponents → AllZip (IsTerm d n r s) (filter (has_root d n r s) (take k exponents)) ts →
+pub first_in_pair : (d : RootDatum) (n : Table) (r s : ℤ) (k : ℕ) (ts : List Term) (i j : ℕ) → k < length exponents → AllZip (IsTerm d n r s) (filter (has_root d n r s) (take k exponents)) ts →
     (i, j) ≡ get_or exponents k (0, 0) → has_root d n r s (get_or exponents k (0, 0)) ≡ true → IsFraction d n r s (get_or exponents k (0, 0)) → IsFirstInPair d n r s i j
 first_in_pair d n r s k ts i j l h e p f = record {
   term = length (filter (has_root d n r s) (take k exponents));
@@ -202,11 +202,11 @@ first_in_pair d n r s k ts i j l h e p f = record {
 }
 
 -- roots with a sum are neither equal nor opposite
-pub pair_from_sum : (d : Roots) → IsLoaded d → (r s k : ℤ) → IsSum d r s k → IsPair d r s
+pub pair_from_sum : (d : RootDatum) → IsLoaded d → (r s k : ℤ) → IsSum d r s k → IsPair d r s
 pair_from_sum d loaded r s k h = record { left = h.left; right = h.right; unequal = λ e. not_double d loaded r k (subst (λ t. IsSum d r t k) e h); independent = not_opposite d loaded r s k h }
 
 -- the fault of a term, as the fault of its pair
-pub term_fault : (d : Roots) (n : Table) (r s : ℤ) (k : ℕ) (ts : List Term) (f : ConstFault) → IsPair d r s → k < length exponents → AllZip (IsTerm d n r s) (filter (has_root d n r s) (take k exponents)) ts →
+pub term_fault : (d : RootDatum) (n : Table) (r s : ℤ) (k : ℕ) (ts : List Term) (f : ConstFault) → IsPair d r s → k < length exponents → AllZip (IsTerm d n r s) (filter (has_root d n r s) (take k exponents)) ts →
     IsTermFault d n r s (get_or exponents k (0, 0)) f → IsPairFault d n r s f
 term_fault d n r s k ts NoMemory pair l h g = tt
 term_fault d n r s k ts (Constant p q a e) pair l h g = absurd g

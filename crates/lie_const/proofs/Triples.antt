@@ -1,12 +1,12 @@
 -- Each pair of roots whose sum is a root comes, by the two sign rules, from one special pair (r, s) of a sum k: from (r, s), (s, -k) or (-k, r).
 use Rattle.std.proofs.Common.{◌≢◌, ℤ, pos, neg_ℤ, ◌<ℤ◌, sym, ap, subst, ◌∙◌, arith, ◌⊎◌, inl, inr, ⊎_elim}
 use Rattle.std.proofs.lemmas.Int.{ints}
-use Rattle.lie_datum.specs.RootList.{Roots, IsLoaded, IsNumber}
+use Rattle.lie_datum.specs.RootList.{RootDatum, IsLoaded, IsNumber}
 use Rattle.lie_const.specs.StructureConstants.{IsSum, IsSpecial}
 use Rattle.lie_const.proofs.SumLemmas.{neg_neg, neg_number, sum_swap, sum_turn, sum_neg, not_double, not_opposite, sign_of, compare_numbers}
 
 -- what the two sign rules keep
-pub record IsClosed (d : Roots) (P : ℤ → ℤ → Type 0) : Type 0 where
+pub record IsClosed (d : RootDatum) (P : ℤ → ℤ → Type 0) : Type 0 where
   pub swapped : (r s : ℤ) → IsNumber d r → IsNumber d s → s ≢ neg_ℤ r → P r s → P s r
   pub opposite : (r s : ℤ) → IsNumber d r → IsNumber d s → s ≢ neg_ℤ r → P r s → P (neg_ℤ r) (neg_ℤ s)
 
@@ -15,7 +15,7 @@ pub record HoldsOn (P : ℤ → ℤ → Type 0) (r s k : ℤ) : Type 0 where
   pub right : P s (neg_ℤ k)
   pub left : P (neg_ℤ k) r
 
-module _ (d : Roots) (loaded : IsLoaded d) (P : ℤ → ℤ → Type 0) (closed : IsClosed d P) where
+module _ (d : RootDatum) (loaded : IsLoaded d) (P : ℤ → ℤ → Type 0) (closed : IsClosed d P) where
   both : (r s : ℤ) → IsNumber d r → IsNumber d s → s ≢ neg_ℤ r → P (neg_ℤ r) (neg_ℤ s) → P r s
   both r s m n o p =
       subst (λ x. P x s) (neg_neg r) (subst (λ x. P (neg_ℤ (neg_ℤ r)) x) (neg_neg s)

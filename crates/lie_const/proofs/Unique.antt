@@ -1,13 +1,13 @@
 -- Two tables that stand for one datum are equal.
 use Rattle.std.proofs.Common.{◌≡◌, ◌≢◌, ℤ, pos, neg_ℤ, ◌+ℤ◌, sym, ◌∙◌, arith, inl, ⊎_elim}
 use Rattle.std.proofs.lemmas.Int.{ints}
-use Rattle.lie_datum.specs.RootList.{Roots, IsLoaded, IsNumber}
+use Rattle.lie_datum.specs.RootList.{RootDatum, IsLoaded, IsNumber}
 use Rattle.lie_const.specs.StructureConstants.{Table, at_part, IsSpecial, HasSigns, IsUnique}
 use Rattle.lie_const.specs.Filling.{own_pair, right_pair, left_pair}
 use Rattle.lie_const.proofs.Triples.{HoldsOn, every_pair}
 use Rattle.lie_const.proofs.ForcedLemmas.{sum_or, agree_closed, agree_before}
 
-module _ (d : Roots) (loaded : IsLoaded d) where
+module _ (d : RootDatum) (loaded : IsLoaded d) where
   -- tables that agree at the pairs of all places agree
   pub agree_everywhere : (m n : Table) (ms : HasSigns d m) (ns : HasSigns d n) → ((r s k : ℤ) → IsSpecial d r s k → HoldsOn (λ x y. m x y ≡ n x y) r s k) → (r s : ℤ) → IsNumber d r → IsNumber d s → s ≢ neg_ℤ r → m r s ≡ n r s
   agree_everywhere m n ms ns special r s p q o =

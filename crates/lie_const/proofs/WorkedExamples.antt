@@ -4,7 +4,7 @@ use Rattle.lie_ring.specs.Integers.{integers}
 use Rattle.lie_ring.specs.Matrices.{Matrix}
 use Rattle.lie_datum.specs.Vectors.{Vector}
 use Rattle.lie_datum.specs.RootDatum.{simple}
-use Rattle.lie_datum.specs.RootList.{Roots}
+use Rattle.lie_datum.specs.RootList.{RootDatum}
 use Rattle.lie_const.specs.StructureConstants.{Table}
 use Rattle.lie_const.specs.Modules.{Module, root_element, weyl_element}
 use Rattle.lie_const.specs.Adjoint.{RootVector, CorootVector, basis_vector, basis_place, bracket_matrix, matrix_power}
@@ -15,7 +15,7 @@ use Rattle.lie_const.specs.Braids.{alternating}
 abbrev one_entry : ℤ → Vector
 one_entry x = x ∷ replicate 7 (pos 0)
 
-abbrev a1 : Roots
+abbrev a1 : RootDatum
 a1 = record { base = record { dim = 1; roots = one_entry (pos 2) ∷ []; coroots = one_entry (pos 1) ∷ [] }; positive = simple 1 ∷ [] }
 
 -- no sum of two roots is a root

@@ -14,7 +14,7 @@ use Rattle.lie_ring.specs.Powers.{power}
 use Rattle.lie_ring.specs.Matrices.{Matrix, table, entry, identity, product, zero_matrix}
 use Rattle.lie_datum.specs.Vectors.{Vector}
 use Rattle.lie_datum.specs.Numbers.{place}
-use Rattle.lie_datum.specs.RootList.{Roots, IsNumber}
+use Rattle.lie_datum.specs.RootList.{RootDatum, IsNumber}
 
 -- the number of positive roots, the weight of each basis vector, and for each root, in the full order, its matrices E^(1), E^(2), ..
 pub record Module : Type 0 where
@@ -40,7 +40,7 @@ divided_power v r zero = identity integers (dimension v)
 divided_power v r (suc k) = slice_index_or (divided_powers v r) k (zero_matrix (pos 0) (dimension v) (dimension v))
 
 -- a list of matrices for each root; each is square, of the dimension, and the last that is kept for a root is not 0
-pub record IsModule (d : Roots) (v : Module) : Type 0 where
+pub record IsModule (d : RootDatum) (v : Module) : Type 0 where
   pub positive : v.positive ≡ length d.positive
   pub roots : length v.powers ≡ 2 * length d.positive
   pub square : (r : ℤ) (k : ℕ) → IsNumber d r → k < top v r → divided_power v r (suc k) ≡ table (dimension v) (dimension v) (entry (pos 0) (divided_power v r (suc k)))

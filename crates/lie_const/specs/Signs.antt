@@ -11,7 +11,7 @@ use Rattle.lie_ring.specs.Integers.{integers}
 use Rattle.lie_ring.specs.Matrices.{entry}
 use Rattle.lie_datum.specs.Numbers.{place}
 use Rattle.lie_datum.specs.RootDatum.{rank, IsSimpleIndex, reflected}
-use Rattle.lie_datum.specs.RootList.{Roots, root_of, IsNumber}
+use Rattle.lie_datum.specs.RootList.{RootDatum, root_of, IsNumber}
 use Rattle.lie_const.specs.CommutatorTerms.{number_of}
 use Rattle.lie_const.specs.Modules.{Module, weyl_element}
 use Rattle.lie_const.specs.Adjoint.{basis_place}
@@ -21,11 +21,11 @@ abbrev pub Signs : Type 0
 Signs = ℕ → ℤ → ℤ
 
 -- the number of s_i s
-abbrev pub image : Roots → ℕ → ℤ → ℤ
+abbrev pub image : RootDatum → ℕ → ℤ → ℤ
 image d i s = number_of d (reflected d.base i (root_of d s)).coeffs
 
 -- what the adjoint module has for the sign of i and s
-abbrev pub sign_entry : Roots → Module → Signs
+abbrev pub sign_entry : RootDatum → Module → Signs
 sign_entry d v i s = entry (pos 0) (weyl_element integers v i) (basis_place d (image d i s)) (basis_place d s)
 
 -- what is asked of the sign of i and s: it is 1 or -1, it is -1 at a_i and at -a_i, and for a negative root it is that of the opposite root
@@ -35,12 +35,12 @@ pub record IsGoodSign (eta : Signs) (i : ℕ) (s : ℤ) : Type 0 where
   pub opposite : s <ℤ pos 0 → eta i s ≡ eta i (neg_ℤ s)
 
 -- the signs are the entries of the adjoint module v, and are as they should be
-pub record AreSigns (d : Roots) (v : Module) (eta : Signs) : Type 0 where
+pub record AreSigns (d : RootDatum) (v : Module) (eta : Signs) : Type 0 where
   pub entries : (i : ℕ) (s : ℤ) → IsSimpleIndex d.base i → IsNumber d s → eta i s ≡ sign_entry d v i s
   pub good : (i : ℕ) (s : ℤ) → IsSimpleIndex d.base i → IsNumber d s → IsGoodSign eta i s
 
 -- for i rising and s in the full order, (i, s) is the first whose entry is not as it should be, and has the value c
-pub record IsFirstBadSign (d : Roots) (v : Module) (i : ℕ) (s c : ℤ) : Type 0 where
+pub record IsFirstBadSign (d : RootDatum) (v : Module) (i : ℕ) (s c : ℤ) : Type 0 where
   pub index : IsSimpleIndex d.base i
   pub number : IsNumber d s
   pub value : c ≡ sign_entry d v i s
@@ -59,7 +59,7 @@ abbrev pub eta_of : SignTable → Signs
 eta_of t i s = slice_index_or t.signs ((i - 1) * (2 * t.positive) + place t.positive s) (pos 1)
 
 -- the table has the signs of a datum, whatever they are
-pub record IsSignTable (d : Roots) (t : SignTable) : Type 0 where
+pub record IsSignTable (d : RootDatum) (t : SignTable) : Type 0 where
   pub rank : t.rank ≡ rank d.base
   pub positive : t.positive ≡ length d.positive
 

@@ -15,31 +15,31 @@ use Rattle.std.specs.Ordering.{int_cmp, is_eq}
 use Rattle.std.specs.Cmp.Lexicographic.{slice_cmp}
 use Rattle.lie_datum.specs.Vectors.{Vector, plus, minus}
 use Rattle.lie_datum.specs.declared.root_pair.Root.{Root}
-use Rattle.lie_datum.specs.RootList.{Roots, all_roots, root_of, IsNumber, IsString, length2}
+use Rattle.lie_datum.specs.RootList.{RootDatum, all_roots, root_of, IsNumber, IsString, length2}
 
 -- the values N_rs, by signed numbers
 abbrev pub Table : Type 0
 Table = ℤ → ℤ → ℤ
 
 -- the coefficients of the root of a signed number
-abbrev pub coeffs_of : Roots → ℤ → Vector
+abbrev pub coeffs_of : RootDatum → ℤ → Vector
 coeffs_of d r = (root_of d r).coeffs
 
 -- r + s = k, and all three are roots
-pub record IsSum (d : Roots) (r s k : ℤ) : Type 0 where
+pub record IsSum (d : RootDatum) (r s k : ℤ) : Type 0 where
   pub left : IsNumber d r
   pub right : IsNumber d s
   pub number : IsNumber d k
   pub is : coeffs_of d k ≡ plus (coeffs_of d r) (coeffs_of d s)
 
 -- a special pair: positive roots, r before s, with the sum k
-pub record IsSpecial (d : Roots) (r s k : ℤ) : Type 0 where
+pub record IsSpecial (d : RootDatum) (r s k : ℤ) : Type 0 where
   pub positive : pos 0 <ℤ r
   pub before : r <ℤ s
   pub sum : IsSum d r s k
 
 -- an extraspecial pair: the special pair of its sum whose r is first
-pub record IsExtraspecial (d : Roots) (r s k : ℤ) : Type 0 where
+pub record IsExtraspecial (d : RootDatum) (r s k : ℤ) : Type 0 where
   pub special : IsSpecial d r s k
   pub first : (r' s' : ℤ) → IsSpecial d r' s' k → r ≤ℤ r'
 
@@ -48,19 +48,19 @@ abbrev pub same_vector : Vector → Vector → Bool
 same_vector x y = is_eq (slice_cmp int_cmp x y)
 
 -- the root with these coefficients, if there is one
-abbrev pub find_root : Roots → Vector → Option Root
+abbrev pub find_root : RootDatum → Vector → Option Root
 find_root d v = find (λ r. same_vector r.coeffs v) (all_roots d)
 
 -- |r|^2
-abbrev pub norm : Roots → ℤ → ℤ
+abbrev pub norm : RootDatum → ℤ → ℤ
 norm d r = length2 d (root_of d r)
 
 -- |v|^2 where v is a root, and 1 where it is none
-abbrev pub norm_or_one : Roots → Vector → ℤ
+abbrev pub norm_or_one : RootDatum → Vector → ℤ
 norm_or_one d v = option_map_or (length2 d) (find_root d v) (pos 1)
 
 -- |s - r|^2 where s - r is a root, and 1 where it is none
-abbrev pub gap : Roots → ℤ → ℤ → ℤ
+abbrev pub gap : RootDatum → ℤ → ℤ → ℤ
 gap d s r = norm_or_one d (plus (coeffs_of d s) (minus (coeffs_of d r)))
 
 -- where a pair stands in the order of determination: by the sum of its special pair, the first root of that pair, and its part
@@ -79,7 +79,7 @@ at_part k r part = record { sum = k; first = r; part = part }
 
 -- the pair (r, s) that is determined at a place, with its equation N_rs A = E: for the special pair (r, s) of the sum k
 -- the pair itself, then (s, -k), then (-k, r)
-pub data IsForced (d : Roots) (n : Table) : Place → ℤ → ℤ → ℤ → ℤ → Type 0 where
+pub data IsForced (d : RootDatum) (n : Table) : Place → ℤ → ℤ → ℤ → ℤ → Type 0 where
   -- on an extraspecial pair N_rs = p + 1
   extra : (r s k : ℤ) (p q : ℕ) → IsExtraspecial d r s k → IsString d (root_of d r) (root_of d s) p q →
       IsForced d n (at_part k r 0) r s (pos 1) (pos (p + 1))
@@ -95,27 +95,27 @@ pub data IsForced (d : Roots) (n : Table) : Place → ℤ → ℤ → ℤ → �
   left : (r s k : ℤ) → IsSpecial d r s k → IsForced d n (at_part k r 2) (neg_ℤ k) r (norm d k) (n r s *ℤ norm d s)
 
 -- the rules that hold at every pair: N_rs is 0 where r + s is no root, N_sr = -N_rs, and N_(-r,-s) = -N_rs
-pub record HasSigns (d : Roots) (n : Table) : Type 0 where
+pub record HasSigns (d : RootDatum) (n : Table) : Type 0 where
   pub none : (r s : ℤ) → IsNumber d r → IsNumber d s → s ≢ neg_ℤ r → ((k : ℤ) → ¬ IsSum d r s k) → n r s ≡ pos 0
   pub swapped : (r s : ℤ) → IsNumber d r → IsNumber d s → s ≢ neg_ℤ r → n s r ≡ neg_ℤ (n r s)
   pub opposite : (r s : ℤ) → IsNumber d r → IsNumber d s → s ≢ neg_ℤ r → n (neg_ℤ r) (neg_ℤ s) ≡ neg_ℤ (n r s)
 
 -- N_rs is p + 1 or its opposite, by the string of s along r
-abbrev pub IsUnitValue : Roots → Table → ℤ → ℤ → Type 0
+abbrev pub IsUnitValue : RootDatum → Table → ℤ → ℤ → Type 0
 IsUnitValue d n r s = (p q : ℕ) → IsString d (root_of d r) (root_of d s) p q → (n r s ≡ pos (p + 1)) ⊎ (n r s ≡ neg_ℤ (pos (p + 1)))
 
 -- the equation of a place holds, and its value is p + 1 or the opposite
-abbrev pub HoldsAt : Roots → Table → Place → Type 0
+abbrev pub HoldsAt : RootDatum → Table → Place → Type 0
 HoldsAt d n at = (r s a e : ℤ) → IsForced d n at r s a e → ((n r s *ℤ a) ≡ e) × IsUnitValue d n r s
 
 -- the table stands for the datum
-pub record StandsFor (d : Roots) (n : Table) : Type 0 where
+pub record StandsFor (d : RootDatum) (n : Table) : Type 0 where
   pub signs : HasSigns d n
   pub values : (at : Place) → HoldsAt d n at
 
 -- (r, s) is the first pair whose forced value fails: with its equation N_rs a = e, the number e is neither (p + 1) a nor -(p + 1) a.
 -- The table is one that holds before this pair.
-pub record IsFirstFailure (d : Roots) (r s a e : ℤ) : Type 0 where
+pub record IsFirstFailure (d : RootDatum) (r s a e : ℤ) : Type 0 where
   pub table : Table
   pub signs : HasSigns d table
   pub at : Place
@@ -124,5 +124,5 @@ pub record IsFirstFailure (d : Roots) (r s a e : ℤ) : Type 0 where
   pub fails : (p q : ℕ) → IsString d (root_of d r) (root_of d s) p q → (e ≢ (pos (p + 1) *ℤ a)) × (e ≢ neg_ℤ (pos (p + 1) *ℤ a))
 
 -- two tables that stand for one datum are equal
-abbrev pub IsUnique : Roots → Type 0
+abbrev pub IsUnique : RootDatum → Type 0
 IsUnique d = (m n : Table) → StandsFor d m → StandsFor d n → (r s : ℤ) → IsNumber d r → IsNumber d s → s ≢ neg_ℤ r → m r s ≡ n r s

@@ -3,7 +3,7 @@
 ghost use Rattle.std.specs.Prelude.{◌≡◌, ℤ, ℕ, ◌≤◌, ◌*◌, ◌*ℤ◌, ◌<ℤ◌, ◌^◌, ⊤, pos, length, Err, [], unsigned_abs, slice_index_or, MatchOption, MatchResult};
 ghost use Rattle.lie_datum.specs.RootList.{IsNumber};
 ghost use Rattle.lie_const.specs.StructureConstants.{StandsFor, HasSigns, IsSum, coeffs_of};
-ghost use Rattle.lie_const.specs.CommutatorTerms.{AreTerms, IsPair, chain, coefficient, factorial, sign, term_vector};
+ghost use Rattle.lie_const.specs.CommutatorTerms.{AreTerms, IsPair, string_product, coefficient, factorial, sign, term_vector};
 ghost use Rattle.lie_const.specs.ConstantTables.{LoadsConstants, pair_place};
 ghost use Rattle.lie_const.specs.Filling.{table_in};
 ghost use Rattle.lie_const.specs.TermFilling.{IsPairFault, IsAdded, IsTermFault};
@@ -134,26 +134,29 @@ fn coefficient(
     ensures bound { (unsigned_abs result.0 ≤ 2 ^ 40) × (1 ≤ unsigned_abs result.1) × (unsigned_abs result.1 ≤ 6) }
 {
     if j == 1 {
-        (chain(datum, values, r, s, i), factorial(i))
+        (string_product(datum, values, r, s, i), factorial(i))
     } else if i == 1 {
-        (sign(j) * chain(datum, values, s, r, j), factorial(j))
+        (
+            sign(j) * string_product(datum, values, s, r, j),
+            factorial(j),
+        )
     } else if i == 3 && j == 2 {
-        (chain(datum, values, sum, r, 2), 6)
+        (string_product(datum, values, sum, r, 2), 6)
     } else if i == 2 && j == 3 {
-        (-2 * chain(datum, values, sum, s, 2), 6)
+        (-2 * string_product(datum, values, sum, s, 2), 6)
     } else {
         (0, 1)
     }
 }
 
 /// N_(r,s) N_(r,r+s) and on, with this many factors.
-fn chain(datum: &Datum, values: &Values, r: RootId, s: RootId, count: u8) -> i128
+fn string_product(datum: &Datum, values: &Values, r: RootId, s: RootId, count: u8) -> i128
     requires r { IsNumber datum.now r }
     requires s { IsNumber datum.now s }
     requires signs { HasSigns datum.now (table_in values.now) }
     requires values { values.now.positive ≡ length datum.now.positive }
     requires count { count ≤ 3 }
-    ensures value { result ≡ chain datum.now (table_in values.now) (coeffs_of datum.now r) (coeffs_of datum.now s) count }
+    ensures value { result ≡ string_product datum.now (table_in values.now) (coeffs_of datum.now r) (coeffs_of datum.now s) count }
     ensures bound { unsigned_abs result ≤ 128 ^ 3 }
 {
     datum.loaded();

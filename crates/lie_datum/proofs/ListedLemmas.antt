@@ -10,12 +10,12 @@ use Rattle.lie_datum.specs.Vectors.{Vector, times, minus}
 use Rattle.lie_datum.specs.RootDatum.{Base, Root, opposite, root_pairing, IsRoot, IsPositive, IsUnmixed, IsCartan, IsFinite}
 use Rattle.lie_datum.specs.RootList.{root_cmp, IsPositiveList}
 use Rattle.lie_datum.proofs.Entries.{entry, entry-times, entry_past, within_or_past, length-times, same_entries}
-use Rattle.lie_base.proofs.Members.{In, here, there, IsSimpleList, in_map, from_map, map_simple}
+use Rattle.lie_base.proofs.Members.{In, here, there, HasNoRepeats, in_map, from_map, map_simple}
 use Rattle.lie_datum.proofs.ClosureLemmas.{in_from_contains, contains_from_in, in_left, in_right, in_one, pigeonhole}
 use Rattle.lie_datum.proofs.Roots.{same_root, root_self}
 use Rattle.lie_datum.proofs.RootOrder.{same_order}
 use Rattle.lie_datum.proofs.Turns.{not_even, IsRoot-opposite}
-use Rattle.lie_datum.proofs.ThirdLaw.{any_at}
+use Rattle.lie_datum.proofs.HeightLaw.{any_at}
 
 -- what is below each member is no member
 less_than_all : (r : Root) (xs : List Root) → AllByRecursion (λ y. root_cmp r y ≡ Less) xs → ¬ In r xs
@@ -24,13 +24,13 @@ less_than_all r (y ∷ xs) h (here e) = let d = sym (same_order r) ∙ ap (root_
 less_than_all r (y ∷ xs) h (there p) = less_than_all r xs h.1 p
 
 -- an ascending list has no member twice
-pub sorted_simple : (xs : List Root) → IsStrictlySortedBy root_cmp xs → IsSimpleList xs
+pub sorted_simple : (xs : List Root) → IsStrictlySortedBy root_cmp xs → HasNoRepeats xs
 unfolding IsStrictlySortedBy
 sorted_simple [] h = tt
 sorted_simple (x ∷ xs) h = (less_than_all x xs h.0, sorted_simple xs h.1)
 
 -- two lists without repeats and without a common member, joined
-pub append_simple : (xs ys : List Root) → IsSimpleList xs → IsSimpleList ys → ((x : Root) → In x xs → In x ys → ⊥) → IsSimpleList (xs ++ ys)
+pub append_simple : (xs ys : List Root) → HasNoRepeats xs → HasNoRepeats ys → ((x : Root) → In x xs → In x ys → ⊥) → HasNoRepeats (xs ++ ys)
 append_simple [] ys h k d = k
 append_simple (x ∷ xs) ys h k d = ((λ p. ⊎_elim (λ a. h.0 a) (λ a. d x (here refl) a) (in_one xs ys x p)), append_simple xs ys h.1 k (λ z a. d z (there a)))
 
@@ -94,7 +94,7 @@ module _ (b : Base) (c : IsCartan b) (unmixed : IsUnmixed b) (rs : List Root) (l
       (λ q. in_right rs (map opposite rs) r (subst (λ t. In t (map opposite rs)) (twice_opposite r)
       (in_map opposite (listed_in (opposite r) (listed_opposite r p) (opposite_positive r.coeffs q))))) (signs r.coeffs (unmixed r p))
 
-  pub order_simple : IsSimpleList (rs ++ map opposite rs)
+  pub order_simple : HasNoRepeats (rs ++ map opposite rs)
   order_simple =
       let once = sorted_simple rs listed.sorted in
       append_simple rs (map opposite rs) once (map_simple opposite rs (λ r p. twice_opposite r) once)

@@ -3,11 +3,11 @@ use Rattle.std.proofs.Common.{◌≡◌, ◌≢◌, ℕ, zero, suc, ◌*◌, ◌
 use Rattle.std.proofs.lemmas.Int.{ints, by_lt_z}
 use Rattle.lie_datum.specs.Vectors.{pairing, total}
 use Rattle.lie_datum.specs.RootDatum.{Root, IsRoot, vector, covector, root_pairing, opposite}
-use Rattle.lie_datum.specs.RootList.{Roots, IsLoaded, all_roots, length2}
+use Rattle.lie_datum.specs.RootList.{RootDatum, IsLoaded, all_roots, length2}
 use Rattle.lie_base.proofs.RingSolver.{ring, var, neg, ◌⊗◌}
 use Rattle.lie_base.proofs.Members.{In, here, there}
 use Rattle.lie_datum.proofs.Squares.{square_within, factor_not_negative}
-use Rattle.lie_datum.proofs.FirstLaw.{form_comm}
+use Rattle.lie_datum.proofs.FormLaw.{form_comm}
 use Rattle.lie_datum.proofs.Turns.{pairing-combination-times}
 use mir.Val.{to_z, of_z}
 use mir.Syntax.{w128}
@@ -66,7 +66,7 @@ total_below : {A : Type 0} (f : A → ℤ) (n : ℕ) (xs : List A) → ((x : A) 
 total_below f n [] h = omega (arith, ints)
 total_below f n (x ∷ xs) h = let l = total_below f n xs (λ y p. h y (there p)) in let k = h x (here refl) in omega (arith, ints, l, k)
 
-module _ (d : Roots) (loaded : IsLoaded d) where
+module _ (d : RootDatum) (loaded : IsLoaded d) where
   -- the square of a root's length is positive, since a root pairs with its own coroot to 2
   pub length_positive : (r : Root) → IsRoot d.base r → pos 0 <ℤ length2 d r
   length_positive r p =

@@ -3,7 +3,7 @@ use Rattle.std.proofs.Common.{◌≡◌, ◌≢◌, ℕ, zero, suc, ◌≤ℤ◌
 use Rattle.std.proofs.lemmas.Int.{ints}
 use Rattle.lie_datum.specs.Vectors.{Vector, pairing, minus}
 use Rattle.lie_datum.specs.RootDatum.{Root, IsRoot, is_simple, IsSimpleIndex, IsPositive, IsNegative, vector, covector, root_pairing, simple, opposite, reflected}
-use Rattle.lie_datum.specs.RootList.{Roots, IsLoaded}
+use Rattle.lie_datum.specs.RootList.{RootDatum, IsLoaded}
 use Rattle.lie_datum.specs.Laws.{reflected_in, ReflectionLaw, SimpleReflectionLaw}
 use Rattle.lie_datum.proofs.Linear.{pairing_comm}
 use Rattle.lie_datum.proofs.Roots.{same_root, root_lengths, moved_back, turned, reflected_twice}
@@ -18,7 +18,7 @@ opposite_negative v h k d l =
     subst (λ t. t ≤ℤ pos 0) (get_or_default (minus v) k (pos 0) d l)
     (let a = entry-times (negsuc 0) v k in let b = at_entry (λ c. pos 0 ≤ℤ c) (omega (arith, ints)) v h k in omega (arith, ints, a, b))
 
-module _ (d : Roots) (loaded : IsLoaded d) where
+module _ (d : RootDatum) (loaded : IsLoaded d) where
   reflected_in_twice : (r s : Root) → IsRoot d.base r → IsRoot d.base s → reflected_in d.base r (reflected_in d.base r s) ≡ s
   reflected_in_twice r s p q =
       let b = d.base in

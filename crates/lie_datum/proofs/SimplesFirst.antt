@@ -11,12 +11,12 @@ use Rattle.std.specs.declared.cmp.Ordering.{Ordering}
 use Rattle.std.specs.declared.cmp.Ordering.TheVariants.{Less, Equal, Greater}
 use Rattle.lie_datum.specs.Vectors.{Vector, unit, total, entry}
 use Rattle.lie_datum.specs.RootDatum.{Root, IsRoot, is_simple, IsSimpleIndex, IsPositive, simple, rank}
-use Rattle.lie_datum.specs.RootList.{Roots, IsLoaded, root_cmp, height}
+use Rattle.lie_datum.specs.RootList.{RootDatum, IsLoaded, root_cmp, height}
 use Rattle.lie_datum.specs.Laws.{SimplesFirst}
 use Rattle.lie_base.proofs.Members.{In, here, there}
 use Rattle.lie_datum.proofs.Entries.{within_or_past, entry-unit}
 use Rattle.lie_datum.proofs.Roots.{root_lengths}
-use Rattle.lie_datum.proofs.ThirdLaw.{entry_off, past_rank}
+use Rattle.lie_datum.proofs.HeightLaw.{entry_off, past_rank}
 use Rattle.lie_datum.proofs.HeightLemmas.{height_positive, entries_not_negative, no_less, all_zero}
 use Rattle.lie_datum.proofs.SignedRoots.{same_coeffs}
 use Rattle.lie_datum.proofs.LoadedLaws.{short, self, positive_in, positive_only, simple_is_positive, sorted_simple}
@@ -133,7 +133,7 @@ simples_lead (suc n) i (r ∷ rs) b s all only k l =
             by_index (inl m) = is_one j m (omega (arith, c)) f
             by_index (inr m) = absurd ((sorted_simple (r ∷ rs) s).0 (subst (λ t. In t rs) (f ∙ (let q : j ≡ suc i = omega (arith, m, a) in ap simple q) ∙ sym e) p))
 
-module _ (d : Roots) (loaded : IsLoaded d) where
+module _ (d : RootDatum) (loaded : IsLoaded d) where
   -- a positive root of height 1 is simple
   height_one : (r : Root) → IsRoot d.base r → IsPositive r → height r ≡ pos 1 → (j : ℕ) × (0 < j) × (j ≤ rank d.base) × (r ≡ simple j)
   height_one r p q e =

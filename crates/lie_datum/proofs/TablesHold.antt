@@ -16,7 +16,7 @@ use Rattle.std.proofs.Math.Seq.{take-append_seam}
 use Rattle.lie_datum.specs.Vectors.{Vector, pairing, plus}
 use Rattle.lie_datum.specs.Numbers.{place, number_at}
 use Rattle.lie_datum.specs.RootDatum.{Base, Root, rank, vector, covector, opposite, reflected, is_reflected, IsRoot, IsSmall, IsCartan, IsApart}
-use Rattle.lie_datum.specs.RootList.{Roots, IsLoaded, IsNumber, root_of, all_roots, NamesRoot}
+use Rattle.lie_datum.specs.RootList.{RootDatum, IsLoaded, IsNumber, root_of, all_roots, NamesRoot}
 use Rattle.lie_datum.specs.Entries.{as_root, HasEntry, IsEntryOf, square_sum}
 use Rattle.lie_datum.specs.Grids.{grid, IsSamePair, IsIndexed}
 use Rattle.lie_datum.specs.Table.{AreSums, AreImages, loaded_roots, IsTableOf}
@@ -36,7 +36,7 @@ no_root = record { coeffs = []; co_coeffs = [] }
 
 -- ---- names
 -- the number of a place names the root there
-pub names_root : (d : Roots) (loaded : IsLoaded d) (f : Root → Vector) (v : Vector) (o : Option ℤ) → IsIndexed (length d.positive) (map f (all_roots d)) v o → NamesRoot d (λ r. f r ≡ v) o
+pub names_root : (d : RootDatum) (loaded : IsLoaded d) (f : Root → Vector) (v : Vector) (o : Option ℤ) → IsIndexed (length d.positive) (map f (all_roots d)) v o → NamesRoot d (λ r. f r ≡ v) o
 names_root d loaded f v None h = λ r p e.
     let c = contains_from_in (all_roots d) r (all_in d loaded r p) in
     h (
@@ -56,12 +56,12 @@ names_root d loaded f v (Some n) h =
     subst (λ t. IsNumber d t × (f (root_of d t) ≡ v)) (sym h.2) named
 
 -- every root has a name
-pub some_name : (d : Roots) (f : Root → Vector) (r : Root) (o : Option ℤ) → IsRoot d.base r → NamesRoot d (λ s. f s ≡ f r) o → IsSome o
+pub some_name : (d : RootDatum) (f : Root → Vector) (r : Root) (o : Option ℤ) → IsRoot d.base r → NamesRoot d (λ s. f s ≡ f r) o → IsSome o
 some_name d f r None p h = absurd (h r p refl)
 some_name d f r (Some n) p h = refl
 
 -- ---- the tables
-module _ (d : Roots) (loaded : IsLoaded d) where
+module _ (d : RootDatum) (loaded : IsLoaded d) where
   -- in a table with a row of values at all roots
   at_pair : {A C : Type 0} (f : A → Root → C) (xs : List A) (i : ℕ) (x : A) (s : ℤ) (z : C) → i < length xs → IsNumber d s → get_or (grid f xs (all_roots d)) (i * (2 * length d.positive) + place (length d.positive) s) z ≡ f (get_or xs i x) (root_of d s)
   at_pair f xs i x s z l n =
@@ -110,7 +110,7 @@ module _ (d : Roots) (loaded : IsLoaded d) where
 
 -- ---- the last axiom
 module _ (b : Base) (c : IsCartan b) (rs : List Root) (listed : IsListed b rs) where
-  d : Roots
+  d : RootDatum
   d = record { base = b; positive = rs }
 
   -- the bounds of the roots
@@ -184,22 +184,22 @@ module _ (b : Base) (c : IsCartan b) (rs : List Root) (listed : IsListed b rs) w
       )
 
 -- ---- all tables of a datum
-abbrev with_entries : Base → ℕ → List Entry → Roots
+abbrev with_entries : Base → ℕ → List Entry → RootDatum
 with_entries b m es = record { base = b; positive = map as_root (take m es) }
 
 -- the entries of all roots are those of d
-pub entries_view : (d : Roots) (m : ℕ) (es : List Entry) → m ≡ length d.positive → map as_root es ≡ all_roots d → with_entries d.base m es ≡ d
+pub entries_view : (d : RootDatum) (m : ℕ) (es : List Entry) → m ≡ length d.positive → map as_root es ≡ all_roots d → with_entries d.base m es ≡ d
 entries_view d m es count roots =
     let list : map as_root (take m es) ≡ d.positive =
     sym (take-map as_root m es) ∙ ap (take m) roots ∙ ap (λ n. take n (all_roots d)) count ∙ take-append_seam d.positive (map opposite d.positive) in
     ap (λ t. record { base = d.base; positive = t }) list
 
 -- names by a vector, of the roots in the full order
-pub index_of_roots : (d : Roots) (m : ℕ) (f : Root → Vector) (ts : List Root) (vs : List Vector) (names : Vector → Option ℤ) → m ≡ length d.positive → ts ≡ all_roots d → vs ≡ map f ts →
+pub index_of_roots : (d : RootDatum) (m : ℕ) (f : Root → Vector) (ts : List Root) (vs : List Vector) (names : Vector → Option ℤ) → m ≡ length d.positive → ts ≡ all_roots d → vs ≡ map f ts →
     ((v : Vector) → IsIndexed m vs v (names v)) → (v : Vector) → IsIndexed (length d.positive) (map f (all_roots d)) v (names v)
 index_of_roots d m f ts vs names p q e h v = subst (λ n. IsIndexed n (map f (all_roots d)) v (names v)) p (subst (λ ws. IsIndexed m ws v (names v)) (e ∙ ap (map f) q) (h v))
 
-module _ (d : Roots) (loaded : IsLoaded d) (a : Inside) (base : d.base ≡ a.base) (count : a.positive ≡ length d.positive) (roots : map as_root a.table.items ≡ all_roots d) where
+module _ (d : RootDatum) (loaded : IsLoaded d) (a : Inside) (base : d.base ≡ a.base) (count : a.positive ≡ length d.positive) (roots : map as_root a.table.items ≡ all_roots d) where
   tables_view : d ≡ loaded_roots a
   tables_view = sym (entries_view d a.positive a.table.items count roots) ∙ ap (λ t. with_entries t a.positive a.table.items) base
 
@@ -217,12 +217,12 @@ module _ (d : Roots) (loaded : IsLoaded d) (a : Inside) (base : d.base ≡ a.bas
         count = sym (length-map a.table.items as_root) ∙ ap length roots ∙ twice;
         small = omega (arith, small, count);
         all = roots ∙ ap all_roots back;
-        entries = subst (λ (e : Roots). All (IsEntryOf e) a.table.items) back (λ k z l. entry_holds d loaded (get_or a.table.items k z) (entries k z l));
-        sums = subst (λ (e : Roots). AreSums e a.sums.items) back (sums_hold d loaded names (λ v. names_root d loaded (λ r. r.coeffs) v (names v) (indexed v)) a.sums.items sums);
+        entries = subst (λ (e : RootDatum). All (IsEntryOf e) a.table.items) back (λ k z l. entry_holds d loaded (get_or a.table.items k z) (entries k z l));
+        sums = subst (λ (e : RootDatum). AreSums e a.sums.items) back (sums_hold d loaded names (λ v. names_root d loaded (λ r. r.coeffs) v (names v) (indexed v)) a.sums.items sums);
         sum_count = ap length sums ∙ length-grid (λ r s. names (plus r.coeffs s.coeffs)) (all_roots d) (all_roots d) ∙ ap (λ n. n * n) twice;
-        images = subst (λ (e : Roots). AreImages e a.images.items) back (images_hold d loaded names (λ v. names_root d loaded (λ r. r.coeffs) v (names v) (indexed v)) a.images.items images);
+        images = subst (λ (e : RootDatum). AreImages e a.images.items) back (images_hold d loaded names (λ v. names_root d loaded (λ r. r.coeffs) v (names v) (indexed v)) a.images.items images);
         image_count = sym (length-map a.images.items Some) ∙ ap length images ∙ length-grid (λ i r. names (reflected d.base i r).coeffs) (range_with_len 1 (rank d.base)) (all_roots d)
             ∙ ap (λ n. n * length (all_roots d)) (length-range_with_len 1 (rank d.base) ∙ ap rank base) ∙ ap (λ n. length a.base.roots * n) twice;
-        by_coeffs = λ v. subst (λ (e : Roots). NamesRoot e (λ r. r.coeffs ≡ v) (get (pointwise int_eq) a.by_coeffs v)) back (names_root d loaded (λ r. r.coeffs) v (get (pointwise int_eq) a.by_coeffs v) (by_coeffs v));
-        by_vector = λ v. subst (λ (e : Roots). NamesRoot e (λ r. vector e.base r ≡ v) (get (pointwise int_eq) a.by_vector v)) back (names_root d loaded (vector d.base) v (get (pointwise int_eq) a.by_vector v) (by_vector v));
+        by_coeffs = λ v. subst (λ (e : RootDatum). NamesRoot e (λ r. r.coeffs ≡ v) (get (pointwise int_eq) a.by_coeffs v)) back (names_root d loaded (λ r. r.coeffs) v (get (pointwise int_eq) a.by_coeffs v) (by_coeffs v));
+        by_vector = λ v. subst (λ (e : RootDatum). NamesRoot e (λ r. vector e.base r ≡ v) (get (pointwise int_eq) a.by_vector v)) back (names_root d loaded (vector d.base) v (get (pointwise int_eq) a.by_vector v) (by_vector v));
       }

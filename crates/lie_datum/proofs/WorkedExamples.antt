@@ -4,7 +4,7 @@ use Rattle.std.specs.declared.cmp.Ordering.TheVariants.{Less}
 use Rattle.lie_datum.specs.Vectors.{Vector, pairing}
 use Rattle.lie_datum.specs.Numbers.{place}
 use Rattle.lie_datum.specs.RootDatum.{Root, cartan, vector, simple, opposite, reflected}
-use Rattle.lie_datum.specs.RootList.{Roots, height, root_cmp, numbered, root_of, length2}
+use Rattle.lie_datum.specs.RootList.{RootDatum, height, root_cmp, numbered, root_of, length2}
 use Rattle.lie_datum.specs.Laws.{reflected_in, positive_coroots}
 
 -- x and y, and six zeros
@@ -14,7 +14,7 @@ pair x y = x ∷ (y ∷ replicate 6 (pos 0))
 abbrev root : Vector → Vector → Root
 root coeffs co_coeffs = record { coeffs = coeffs; co_coeffs = co_coeffs }
 
-abbrev a2 : Roots
+abbrev a2 : RootDatum
 a2 = record {
   base = record {
     dim = 2;
@@ -25,7 +25,7 @@ a2 = record {
 }
 
 -- c_12 = -2 and c_21 = -1, so the second simple root is short
-abbrev b2 : Roots
+abbrev b2 : RootDatum
 b2 = record {
   base = record {
     dim = 2;
@@ -85,5 +85,5 @@ b2_short : length2 b2 (simple 2) ≡ pos 12
 b2_short = refl
 
 -- a_1 + 2 a_2 pairs with the sum of the positive coroots to twice its height 3
-b2_third_law : pairing (vector b2.base (root_of b2 (pos 4))) (positive_coroots b2) ≡ pos 6
-b2_third_law = refl
+b2_height_law : pairing (vector b2.base (root_of b2 (pos 4))) (positive_coroots b2) ≡ pos 6
+b2_height_law = refl

@@ -3,7 +3,7 @@ use Rattle.std.proofs.Common.{◌≡◌, ◌≢◌, ◌⊎◌, ℕ, ◌<◌, ◌
 use mathlib.Core.Logic.{⊎_elim}
 use Rattle.std.proofs.lemmas.Bool.{cases_eq, cases_lt}
 use Rattle.lie_field.specs.Quotient.{FieldData, order, power, IsFieldData}
-use Rattle.lie_field.specs.Faults.{IsSized, IsFault, IsBad, IsFirstBad, IsFirstAbove, IsUnit}
+use Rattle.lie_field.specs.Faults.{IsWithinLimit, IsFault, IsBad, IsFirstBad, IsFirstAbove, HasNonzeroGenerator}
 use Rattle.lie_field.specs.declared.faults.FieldFault.{FieldFault}
 use Rattle.lie_field.specs.declared.faults.FieldFault.TheVariants.{NoMemory, Size, Coefficient, Element, Generator}
 use Rattle.lie_field.proofs.Exponents.{generator_above}
@@ -34,7 +34,7 @@ none_above : (p : ℕ) (xs : List ℕ) (i : ℕ) → IsFirstAbove p xs i → All
 none_above p xs i h all = let below = all i 0 h.0 in let above = h.1 in let never : ⊥ = omega (arith, below, above) in never
 
 -- g is not both a unit and none
-no_unit : (f : FieldData) → (f.g ≡ 0) ⊎ (order f ≤ f.g) → IsUnit f → ⊥
+no_unit : (f : FieldData) → (f.g ≡ 0) ⊎ (order f ≤ f.g) → HasNonzeroGenerator f → ⊥
 no_unit f h u =
     let low = u.0 in
     let high = u.1 in
@@ -73,7 +73,7 @@ not_bad f d e bad =
     bad
 
 -- no fault is true of a field within the limits
-pub field_has_no_fault : (f : FieldData) → IsSized f → IsFieldData f → (e : FieldFault) → IsFault f e → e ≡ NoMemory
+pub field_has_no_fault : (f : FieldData) → IsWithinLimit f → IsFieldData f → (e : FieldFault) → IsFault f e → e ≡ NoMemory
 field_has_no_fault f s d NoMemory h = refl
 field_has_no_fault f s d Size h = absurd (h s)
 field_has_no_fault f s d (Coefficient i) h = absurd (none_above f.p f.coefficients i h.1 d.ring.coefficients_below)

@@ -10,7 +10,7 @@ use Rattle.lie_field.specs.Polynomials.{plus, scale, times, number}
 use Rattle.lie_field.specs.Quotient.{FieldData, degree, order, element, polynomial, add, mul, inv, power, IsRingData, IsFieldData}
 use Rattle.lie_field.specs.FiniteField.{FiniteField, is_field}
 use Rattle.lie_field.specs.FieldRing.{field_ring}
-use Rattle.lie_field.specs.Faults.{IsSized, IsFault}
+use Rattle.lie_field.specs.Faults.{IsWithinLimit, IsFault}
 use Rattle.lie_field.specs.declared.faults.FieldFault.{FieldFault}
 use Rattle.lie_field.specs.declared.faults.FieldFault.TheVariants.{NoMemory}
 
@@ -59,7 +59,7 @@ FaultsExclude = (f : FieldData) (d e : FieldFault) → IsFault f d → IsFault f
 
 -- and none is true of a field within the limits
 abbrev pub FieldsHaveNoFault : Type 0
-FieldsHaveNoFault = (f : FieldData) → IsSized f → IsFieldData f → (e : FieldFault) → IsFault f e → e ≡ NoMemory
+FieldsHaveNoFault = (f : FieldData) → IsWithinLimit f → IsFieldData f → (e : FieldFault) → IsFault f e → e ≡ NoMemory
 
 -- the test that a value of `FiniteField` carries is passed exactly by the data of a field
 abbrev pub TestIsExact : Type 0

@@ -6,7 +6,7 @@ use Rattle.std.proofs.lemmas.Bool.{cases_lt}
 use Rattle.std.proofs.lemmas.List.Elements.{All-tail}
 use Rattle.lie_ring.specs.Matrices.{Matrix, entry}
 use Rattle.lie_datum.specs.Numbers.{place}
-use Rattle.lie_datum.specs.RootList.{Roots, IsNumber}
+use Rattle.lie_datum.specs.RootList.{RootDatum, IsNumber}
 use Rattle.lie_datum.proofs.NumberLemmas.{place_within}
 use Rattle.lie_datum.proofs.SignedRoots.{same_place}
 use Rattle.lie_const.specs.ConstantTables.{ConstantTable}
@@ -44,10 +44,10 @@ from_less_one : (a b : ℕ) → 1 ≤ a → 1 ≤ b → a - 1 ≡ b - 1 → a �
 from_less_one a b p q e = omega arith
 
 -- ---- the grading
-one_number : (d : Roots) (r s : ℤ) → IsNumber d r → IsNumber d s → place (length d.positive) r ≡ place (length d.positive) s → r ≡ s
+one_number : (d : RootDatum) (r s : ℤ) → IsNumber d r → IsNumber d s → place (length d.positive) r ≡ place (length d.positive) s → r ≡ s
 one_number d r s a b e = same_place (length d.positive) r s (place_within d r a) (place_within d s b) e
 
-same_ungraded : (d : Roots) (v : Module) (r s : ℤ) (k l row col row' col' : ℕ) → IsFirstUngraded d v r k row col → IsFirstUngraded d v s l row' col' → (r ≡ s) × (k ≡ l) × (row ≡ row') × (col ≡ col')
+same_ungraded : (d : RootDatum) (v : Module) (r s : ℤ) (k l row col row' col' : ℕ) → IsFirstUngraded d v r k row col → IsFirstUngraded d v s l row' col' → (r ≡ s) × (k ≡ l) × (row ≡ row') × (col ≡ col')
 same_ungraded d v r s k l row col row' col' p q = elim (order (place (length d.positive) r) (place (length d.positive) s)) [
   | inl a ↦ absurd (q.earlier r k (row - 1) (col - 1) (inl a) p.here)
   | inr (inr a) ↦ absurd (p.earlier s l (row' - 1) (col' - 1) (inl a) q.here)
@@ -75,7 +75,7 @@ none_failing : {A : Type 0} (P : A → Type 0) (xs as' : List A) (x : A) → All
 none_failing P [] as' x h = h 0 x (omega arith)
 none_failing P (z ∷ xs) as' x h = none_failing P xs as' x (All-tail P z (xs ++ x ∷ as') h)
 
-module _ (d : Roots) (c : ConstantTable) (eta : Signs) (v : Module) where
+module _ (d : RootDatum) (c : ConstantTable) (eta : Signs) (v : Module) where
   not_met_large : (q : Rel) → IsLarge d c eta v q → ¬ IsMet d c eta v q
   not_met_large q large met = met.small large
 
@@ -123,10 +123,10 @@ module _ (M N : Matrix Polynomial) (row col row' col' : ℕ) (et eu left right e
   ]
 
 -- ---- the answers
-graded_not : (d : Roots) (v : Module) (r : ℤ) (k row col : ℕ) → IsGraded d v → ¬ IsFirstUngraded d v r k row col
+graded_not : (d : RootDatum) (v : Module) (r : ℤ) (k row col : ℕ) → IsGraded d v → ¬ IsFirstUngraded d v r k row col
 graded_not d v r k row col g h = g r k (row - 1) (col - 1) h.here
 
-module _ (d : Roots) (c : ConstantTable) (eta : Signs) (v : Module) where
+module _ (d : RootDatum) (c : ConstantTable) (eta : Signs) (v : Module) where
   no_fault : (f : AuditFault) → MeetsIdentities d c eta v → IsAuditFault d c eta v f → f ≡ NoMemory
   no_fault NoMemory meets h = refl
   no_fault (Graded r k row col) meets h = absurd (graded_not d v r k row col meets.graded h)

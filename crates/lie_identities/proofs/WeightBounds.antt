@@ -7,7 +7,7 @@ use Rattle.std.proofs.lemmas.List.Elements.{All-map, All-replicate}
 use Rattle.std.proofs.lemmas.List.FromFn.{length-range_with_len, get_or-range_with_len}
 use Rattle.lie_datum.specs.Vectors.{Vector, pairing, combination, entry}
 use Rattle.lie_datum.specs.RootDatum.{vector, IsWithin}
-use Rattle.lie_datum.specs.RootList.{Roots, root_of, IsNumber, IsLoaded}
+use Rattle.lie_datum.specs.RootList.{RootDatum, root_of, IsNumber, IsLoaded}
 use Rattle.lie_datum.proofs.SignedRoots.{root_is}
 use Rattle.lie_datum.proofs.LoadedLaws.{short}
 use Rattle.lie_datum.proofs.VectorLemmas.{entry-combination, entry_within, abs_add, abs_mul, column_entry, vector_within}
@@ -42,7 +42,7 @@ combination_within c vs p q l = from_entries 80000 (combination c vs) (λ k.
     length-column (v ∷ vs) k = ap suc (length-column vs k)
 
 -- the vector of a root
-pub root_within : (d : Roots) (loaded : IsLoaded d) (r : ℤ) → IsNumber d r → IsWithin 80000 (vector d.base (root_of d r))
+pub root_within : (d : RootDatum) (loaded : IsLoaded d) (r : ℤ) → IsNumber d r → IsWithin 80000 (vector d.base (root_of d r))
 root_within d loaded r n =
     let small = loaded.axioms.finite.small (root_of d r) (root_is d loaded r n) in
     combination_within (root_of d r).coeffs d.base.roots small.0 (λ k z l. (loaded.axioms.input.roots k z l).1) (short d loaded)

@@ -13,7 +13,7 @@ use Rattle.lie_ring.specs.Matrices.{Matrix, entry}
 use Rattle.lie_datum.specs.Numbers.{place}
 use Rattle.lie_datum.specs.Vectors.{plus, times}
 use Rattle.lie_datum.specs.RootDatum.{vector, IsWithin}
-use Rattle.lie_datum.specs.RootList.{Roots, root_of, IsNumber}
+use Rattle.lie_datum.specs.RootList.{RootDatum, root_of, IsNumber}
 use Rattle.lie_const.specs.ConstantTables.{ConstantTable}
 use Rattle.lie_const.specs.Modules.{Module, dimension, divided_power}
 use Rattle.lie_const.specs.Signs.{Signs}
@@ -31,7 +31,7 @@ laurent_variables = record { ring = laurent; t_to = λ e. monomial (pos 1) e (po
 
 -- ---- what is asked of a module
 -- E_r^(k) has an entry other than 0 in row a and column b, and the weight of a is not that of b plus k r
-pub record IsUngraded (d : Roots) (v : Module) (r : ℤ) (k a b : ℕ) : Type 0 where
+pub record IsUngraded (d : RootDatum) (v : Module) (r : ℤ) (k a b : ℕ) : Type 0 where
   pub number : IsNumber d r
   pub first : 1 ≤ k
   pub row : a < dimension v
@@ -40,38 +40,38 @@ pub record IsUngraded (d : Roots) (v : Module) (r : ℤ) (k a b : ℕ) : Type 0 
   pub weights : slice_index_or v.weights a [] ≢ plus (slice_index_or v.weights b []) (times (pos k) (vector d.base (root_of d r)))
 
 -- there is no such entry
-abbrev pub IsGraded : Roots → Module → Type 0
+abbrev pub IsGraded : RootDatum → Module → Type 0
 IsGraded d v = (r : ℤ) (k a b : ℕ) → ¬ IsUngraded d v r k a b
 
 -- the factors of the two sides, over the Laurent polynomials
 abbrev pub left_factors : Rel → List (Factor Polynomial)
 left_factors q = left_side laurent_variables q
 
-abbrev pub right_factors : Roots → ConstantTable → Signs → Rel → List (Factor Polynomial)
+abbrev pub right_factors : RootDatum → ConstantTable → Signs → Rel → List (Factor Polynomial)
 right_factors d c eta q = right_side laurent_variables d c eta q
 
 -- the matrices of the two sides
-abbrev pub left_matrix : Roots → Module → Rel → Matrix Polynomial
+abbrev pub left_matrix : RootDatum → Module → Rel → Matrix Polynomial
 left_matrix d v q = side_matrix laurent_variables d v (left_factors q)
 
-abbrev pub right_matrix : Roots → ConstantTable → Signs → Module → Rel → Matrix Polynomial
+abbrev pub right_matrix : RootDatum → ConstantTable → Signs → Module → Rel → Matrix Polynomial
 right_matrix d c eta v q = side_matrix laurent_variables d v (right_factors d c eta q)
 
 -- the relation holds on the module, for all t and u
-abbrev pub IsIdentity : Roots → ConstantTable → Signs → Module → Rel → Type 0
+abbrev pub IsIdentity : RootDatum → ConstantTable → Signs → Module → Rel → Type 0
 IsIdentity d c eta v q = left_matrix d v q ≡ right_matrix d c eta v q
 
 -- the product of the sizes, on one of the two sides, has an entry of 2^126 at least
-abbrev pub IsLarge : Roots → ConstantTable → Signs → Module → Rel → Type 0
+abbrev pub IsLarge : RootDatum → ConstantTable → Signs → Module → Rel → Type 0
 IsLarge d c eta v q = IsHugeMatrix (side_size laurent v (left_factors q)) ⊎ IsHugeMatrix (side_size laurent v (right_factors d c eta q))
 
 -- the relation is not large, and holds
-pub record IsMet (d : Roots) (c : ConstantTable) (eta : Signs) (v : Module) (q : Rel) : Type 0 where
+pub record IsMet (d : RootDatum) (c : ConstantTable) (eta : Signs) (v : Module) (q : Rel) : Type 0 where
   pub small : ¬ IsLarge d c eta v q
   pub identity : IsIdentity d c eta v q
 
 -- the module is audited: it is graded, no relation is large, and each holds
-pub record MeetsIdentities (d : Roots) (c : ConstantTable) (eta : Signs) (v : Module) : Type 0 where
+pub record MeetsIdentities (d : RootDatum) (c : ConstantTable) (eta : Signs) (v : Module) : Type 0 where
   pub graded : IsGraded d v
   pub relations : All (IsMet d c eta v) (relations d)
 
@@ -81,20 +81,20 @@ abbrev pub IsEntryBefore : ℕ → ℕ → ℕ → ℕ → Type 0
 IsEntryBefore a b i j = (b < j) ⊎ ((b ≡ j) × (a < i))
 
 -- the same within the matrices E_q^(l) and E_r^(k), where roots stand in the full order, then k rises
-abbrev pub IsBefore : Roots → ℤ → ℕ → ℕ → ℕ → ℤ → ℕ → ℕ → ℕ → Type 0
+abbrev pub IsBefore : RootDatum → ℤ → ℕ → ℕ → ℕ → ℤ → ℕ → ℕ → ℕ → Type 0
 IsBefore d q l a b r k i j =
     (place (length d.positive) q < place (length d.positive) r)
     ⊎ ((q ≡ r) × ((l < k) ⊎ ((l ≡ k) × IsEntryBefore a b i j)))
 
 -- the first entry that is not graded, with its row and its column counted from 1
-pub record IsFirstUngraded (d : Roots) (v : Module) (r : ℤ) (k row col : ℕ) : Type 0 where
+pub record IsFirstUngraded (d : RootDatum) (v : Module) (r : ℤ) (k row col : ℕ) : Type 0 where
   pub row_first : 1 ≤ row
   pub col_first : 1 ≤ col
   pub here : IsUngraded d v r k (row - 1) (col - 1)
   pub earlier : (q : ℤ) (l a b : ℕ) → IsBefore d q l a b r k (row - 1) (col - 1) → ¬ IsUngraded d v q l a b
 
 -- q is a relation, and all relations before it are met
-pub record AreMetBefore (d : Roots) (c : ConstantTable) (eta : Signs) (v : Module) (q : Rel) : Type 0 where
+pub record AreMetBefore (d : RootDatum) (c : ConstantTable) (eta : Signs) (v : Module) (q : Rel) : Type 0 where
   pub before : List Rel
   pub after : List Rel
   pub split : relations d ≡ before ++ q ∷ after
@@ -110,7 +110,7 @@ pub record IsFirstDifferentEntry (M N : Matrix Polynomial) (row col : ℕ) (et e
   pub earlier : (a b : ℕ) → a < M.height → b < M.width → IsEntryBefore a b (row - 1) (col - 1) → entry laurent.zero M a b ≡ entry laurent.zero N a b
 
 -- the cause of each fault; want of memory has none
-abbrev pub IsAuditFault : Roots → ConstantTable → Signs → Module → AuditFault → Type 0
+abbrev pub IsAuditFault : RootDatum → ConstantTable → Signs → Module → AuditFault → Type 0
 IsAuditFault d c eta v NoMemory = ⊤
 IsAuditFault d c eta v (Graded r k row col) = IsFirstUngraded d v r k row col
 IsAuditFault d c eta v (Large q) = IsGraded d v × AreMetBefore d c eta v q × IsLarge d c eta v q
@@ -119,13 +119,13 @@ IsAuditFault d c eta v (Relation q row col et eu left right) =
     × IsFirstDifferentEntry (left_matrix d v q) (right_matrix d c eta v q) row col et eu left right
 
 -- what `audit` answers: the module, which is audited, or the first fault
-abbrev pub Audits : Roots → ConstantTable → Signs → Module → Result Module AuditFault → Type 0
+abbrev pub Audits : RootDatum → ConstantTable → Signs → Module → Result Module AuditFault → Type 0
 Audits d c eta v (Ok w) = (w ≡ v) × MeetsIdentities d c eta v
 Audits d c eta v (Err f) = IsAuditFault d c eta v f
 
 -- the cases of `Audits` exclude one another: want of memory aside, a module has one answer
 abbrev pub OneAuditAnswer : Type 0
-OneAuditAnswer = (d : Roots) (c : ConstantTable) (eta : Signs) (v : Module) (x y : Result Module AuditFault) →
+OneAuditAnswer = (d : RootDatum) (c : ConstantTable) (eta : Signs) (v : Module) (x y : Result Module AuditFault) →
     Audits d c eta v x → Audits d c eta v y → x ≢ Err NoMemory → y ≢ Err NoMemory → x ≡ y
 
 -- no weight has a coordinate above 1,000,000 in absolute value

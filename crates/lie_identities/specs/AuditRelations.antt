@@ -23,7 +23,7 @@ use Rattle.lie_ring.specs.Matrices.{Matrix, table, entry, identity, product}
 use Rattle.lie_datum.specs.Numbers.{place, number_at}
 use Rattle.lie_datum.specs.Vectors.{pairing}
 use Rattle.lie_datum.specs.RootDatum.{rank, simple_coroot}
-use Rattle.lie_datum.specs.RootList.{Roots}
+use Rattle.lie_datum.specs.RootList.{RootDatum}
 use Rattle.lie_const.specs.declared.term.Term.{Term}
 use Rattle.lie_const.specs.ConstantTables.{ConstantTable, terms_of}
 use Rattle.lie_const.specs.Modules.{Module, dimension, top, divided_power, root_element}
@@ -63,7 +63,7 @@ left_side y (S6 i) = RootElement (pos i) (y.t_to (pos 1)) ∷ (RootElement (neg_
 left_side y (S7 i s) = weyl_factors y.ring i ++ RootElement s (y.t_to (pos 1)) ∷ []
 
 -- the factors of its right side
-abbrev pub right_side : {A : Type 0} → Variables A → Roots → ConstantTable → Signs → Rel → List (Factor A)
+abbrev pub right_side : {A : Type 0} → Variables A → RootDatum → ConstantTable → Signs → Rel → List (Factor A)
 right_side y d c eta (S1 r) = RootElement r (y.ring.add (y.t_to (pos 1)) y.u) ∷ []
 right_side y d c eta (S2 r s) = RootElement r (y.t_to (pos 1)) ∷ (RootElement s y.u ∷ map (λ x. RootElement x.root (term_value y x)) (terms_of c r s))
 right_side y d c eta (S6 i) = CorootElement i ∷ []
@@ -71,19 +71,19 @@ right_side y d c eta (S7 i s) = RootElement (image d i s) (y.ring.mul (y.ring.of
 
 -- ---- their order
 -- the signed numbers of the roots, in the full order
-abbrev pub root_numbers : Roots → List ℤ
+abbrev pub root_numbers : RootDatum → List ℤ
 root_numbers d = map (number_at (length d.positive)) (range_with_len 0 (2 * length d.positive))
 
 -- the roots after r in the full order, but -r
-abbrev pub partners : Roots → ℤ → List ℤ
+abbrev pub partners : RootDatum → ℤ → List ℤ
 partners d r = filter (λ s. ltb (place (length d.positive) r) (place (length d.positive) s) && not (int_eq s (neg_ℤ r))) (root_numbers d)
 
 -- the simple indices, rising
-abbrev pub simple_indices : Roots → List ℕ
+abbrev pub simple_indices : RootDatum → List ℕ
 simple_indices d = range_with_len 1 (rank d.base)
 
 -- all relations: S1 for each root, S2 for each two roots that are not opposite, S6 for each simple index, S7 for each simple index and root
-unfoldable pub relations : Roots → List Rel
+unfoldable pub relations : RootDatum → List Rel
 relations d =
     map S1 (root_numbers d)
     ++ (flat_map (λ r. map (S2 r) (partners d r)) (root_numbers d)
@@ -92,16 +92,16 @@ relations d =
 
 -- ---- the matrices of the sides
 -- t^<x, a_i^>, for the weight x of the basis vector at a
-abbrev pub coroot_power : {A : Type 0} → Variables A → Roots → Module → ℕ → ℕ → A
+abbrev pub coroot_power : {A : Type 0} → Variables A → RootDatum → Module → ℕ → ℕ → A
 coroot_power y d v i a = y.t_to (pairing (slice_index_or v.weights a []) (simple_coroot d.base i))
 
 -- the matrix of a factor on a module
-abbrev pub factor_matrix : {A : Type 0} → Variables A → Roots → Module → Factor A → Matrix A
+abbrev pub factor_matrix : {A : Type 0} → Variables A → RootDatum → Module → Factor A → Matrix A
 factor_matrix y d v (RootElement r f) = root_element y.ring v r f
 factor_matrix y d v (CorootElement i) = table (dimension v) (dimension v) (λ a b. cond (eqb a b) (coroot_power y d v i a) y.ring.zero)
 
 -- the product of the matrices of a list of factors
-abbrev pub side_matrix : {A : Type 0} → Variables A → Roots → Module → List (Factor A) → Matrix A
+abbrev pub side_matrix : {A : Type 0} → Variables A → RootDatum → Module → List (Factor A) → Matrix A
 side_matrix y d v [] = identity y.ring (dimension v)
 side_matrix y d v (x ∷ xs) = product y.ring (factor_matrix y d v x) (side_matrix y d v xs)
 

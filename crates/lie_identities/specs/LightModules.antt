@@ -2,7 +2,7 @@
 -- Own: the bound, which is that of `HasLightWeights`.
 use Rattle.std.specs.Prelude.{Ok}
 use Rattle.lie_datum.specs.Vectors.{Vector}
-use Rattle.lie_datum.specs.RootList.{Roots, IsLoaded}
+use Rattle.lie_datum.specs.RootList.{RootDatum, IsLoaded}
 use Rattle.lie_const.specs.StructureConstants.{Table}
 use Rattle.lie_const.specs.Modules.{Module, IsModule}
 use Rattle.lie_const.specs.Adjoint.{IsAdjoint}
@@ -12,8 +12,8 @@ use Rattle.lie_identities.specs.Audit.{HasLightWeights}
 
 -- the weights of the adjoint module are light
 abbrev pub AdjointIsLight : Type 0
-AdjointIsLight = (d : Roots) (n : Table) (v : Module) → IsLoaded d → IsAdjoint d n v → HasLightWeights v
+AdjointIsLight = (d : RootDatum) (n : Table) (v : Module) → IsLoaded d → IsAdjoint d n v → HasLightWeights v
 
 -- so are those of the module of an orbit
 abbrev pub OrbitIsLight : Type 0
-OrbitIsLight = (d : Roots) (eta : Signs) (w : Vector) (v : Module) → LoadsOrbit d eta w (Ok v) → IsModule d v × HasLightWeights v
+OrbitIsLight = (d : RootDatum) (eta : Signs) (w : Vector) (v : Module) → LoadsOrbit d eta w (Ok v) → IsModule d v × HasLightWeights v

@@ -8,7 +8,7 @@ use Rattle.lie_field.specs.FieldRing.{field_ring}
 use Rattle.lie_field.specs.Quotient.{mul}
 use Rattle.lie_field.specs.Elements.{Elem, elem_neg, elem_mul, elem_int, one_elem-number, elem_neg-number, elem_mul-number, elem_int-number}
 use Rattle.lie_datum.specs.Numbers.{place}
-use Rattle.lie_datum.specs.RootList.{Roots, all_roots}
+use Rattle.lie_datum.specs.RootList.{RootDatum, all_roots}
 use Rattle.lie_const.specs.declared.term.Term.{Term as ConstantTerm}
 use Rattle.lie_const.specs.CommutatorTerms.{IsPair}
 use Rattle.lie_const.specs.ConstantTables.{terms_of}
@@ -37,7 +37,7 @@ positive_abs (pos k) l = refl
 positive_abs (negsuc k) l = absurd (omega (arith, ints, l))
 
 module _ (f : FrameData) (lawful : IsLawfulFrame f) where
-  abbrev d : Roots
+  abbrev d : RootDatum
   d = f.datum
 
   -- the terms of two positive roots that are not equal

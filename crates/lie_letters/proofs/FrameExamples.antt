@@ -4,7 +4,7 @@ use Rattle.std.specs.Prelude.{ℤ, pos, negsuc}
 use Rattle.std.proofs.Common.{replicate}
 use Rattle.lie_datum.specs.declared.root_pair.Root.{Root}
 use Rattle.lie_datum.specs.Vectors.{Vector}
-use Rattle.lie_datum.specs.RootList.{Roots, IsLoaded}
+use Rattle.lie_datum.specs.RootList.{RootDatum, IsLoaded}
 use Rattle.lie_const.specs.declared.term.Term.{Term}
 use Rattle.lie_const.specs.ConstantTables.{ConstantTable, LoadsConstants}
 use Rattle.lie_field.specs.Polynomials.{residues}
@@ -48,7 +48,7 @@ unfoldable pub three : FiniteField
 three = record { given = field_data 3 (0 ∷ []) 2; lawful = three_is_field }
 
 -- A_1, simply connected: a_1 = 2, with coroot 1
-abbrev pub a1 : Roots
+abbrev pub a1 : RootDatum
 a1 = record {
   base = record { dim = 1; roots = pair (pos 2) (pos 0) ∷ []; coroots = pair (pos 1) (pos 0) ∷ [] };
   positive = root (pair (pos 1) (pos 0)) (pair (pos 1) (pos 0)) ∷ [];
@@ -74,7 +74,7 @@ a1_laws : Laws (setting a1_over_two) × RootLaws (root_system a1) × PositiveLaw
 a1_laws = (frame_laws a1_over_two a1_lawful, root_laws a1 a1_loaded, positive_laws a1 a1_loaded, collect_laws a1_over_two a1_lawful)
 
 -- A_2, simply connected: a_1 = (2, -1), a_2 = (-1, 2)
-abbrev pub a2 : Roots
+abbrev pub a2 : RootDatum
 a2 = record {
   base = record { dim = 2; roots = pair (pos 2) (negsuc 0) ∷ (pair (negsuc 0) (pos 2) ∷ []); coroots = pair (pos 1) (pos 0) ∷ (pair (pos 0) (pos 1) ∷ []) };
   positive =
@@ -151,7 +151,7 @@ unfolding three of_int neg mul element residues shift leading degree order
 a2_commutes = commutator_joined a2_over_three a2_lawful 1 2 1 1 (omega arith) (omega arith) (omega arith) (lit< tt) (lit< tt)
 
 -- B_2, simply connected, with c_12 = -2 and c_21 = -1: the second simple root is short
-abbrev b2 : Roots
+abbrev b2 : RootDatum
 b2 = record {
   base = record { dim = 2; roots = pair (pos 2) (negsuc 1) ∷ (pair (negsuc 0) (pos 2) ∷ []); coroots = pair (pos 1) (pos 0) ∷ (pair (pos 0) (pos 1) ∷ []) };
   positive =

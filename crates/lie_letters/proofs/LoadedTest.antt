@@ -12,7 +12,7 @@ use Rattle.std.specs.List.Sorted.{IsStrictlySortedBy}
 use Rattle.lie_datum.specs.declared.root_pair.Root.{Root}
 use Rattle.lie_datum.specs.Vectors.{Vector, entry, IsVectorIn}
 use Rattle.lie_datum.specs.RootDatum.{Base, rank, vector, simple, opposite, reflected, cartan, IsRoot, is_simple, is_reflected, IsSimpleIndex, IsPositive, IsWithin, IsInput}
-use Rattle.lie_datum.specs.RootList.{Roots, all_roots, IsLoaded, root_cmp}
+use Rattle.lie_datum.specs.RootList.{RootDatum, all_roots, IsLoaded, root_cmp}
 use Rattle.lie_base.proofs.Members.{In, here, there, from_map}
 use Rattle.lie_datum.proofs.ClosureLemmas.{in_from_contains, contains_from_in}
 use Rattle.lie_letters.specs.Names.{same_root}
@@ -241,7 +241,7 @@ module _ (b : Base) where
       known z (here s) q = subst (IsRoot b) (sym s) q
       known z (there n) q = h z n
 
-module _ (d : Roots) where
+module _ (d : RootDatum) where
   -- the list of the positive roots
   abbrev pub listed_test : Bool
   listed_test =

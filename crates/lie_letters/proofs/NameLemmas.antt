@@ -19,7 +19,7 @@ use Rattle.lie_datum.specs.declared.root_pair.Root.{Root}
 use Rattle.lie_datum.specs.Vectors.{Vector}
 use Rattle.lie_datum.specs.Numbers.{place, number_at}
 use Rattle.lie_datum.specs.RootDatum.{rank, simple, opposite, reflected, IsRoot, is_simple, is_reflected, IsSimpleIndex}
-use Rattle.lie_datum.specs.RootList.{Roots, all_roots, IsLoaded, IsNumber, root_of}
+use Rattle.lie_datum.specs.RootList.{RootDatum, all_roots, IsLoaded, IsNumber, root_of}
 use Rattle.lie_datum.proofs.Roots.{same_root as same_pair, root_lengths, reflected_twice}
 use Rattle.lie_datum.proofs.ClosureLemmas.{in_at, in_from_contains, contains_from_in}
 use Rattle.lie_datum.proofs.NumberLemmas.{place_within, numbered_at}
@@ -78,7 +78,7 @@ abbrev nothing : Root
 nothing = record { coeffs = []; co_coeffs = [] }
 
 -- the name of a simple root stands for it
-pub simple_at : (d : Roots) (i : Index d) → root_at d (simple_name d i) ≡ simple (suc i.number)
+pub simple_at : (d : RootDatum) (i : Index d) → root_at d (simple_name d i) ≡ simple (suc i.number)
 unfolding simple_name
 simple_at d i =
     let t = right_of (ltb i.number (rank d.base)) (is_some (place_of (all_roots d) (simple (suc i.number)))) i.lawful in
@@ -86,32 +86,32 @@ simple_at d i =
     (some_of-is (place_of (all_roots d) (simple (suc i.number))) t)
 
 -- a simple index, counted from 1, is one of the datum
-pub index_is : (d : Roots) (i : Index d) → IsSimpleIndex d.base (suc i.number)
+pub index_is : (d : RootDatum) (i : Index d) → IsSimpleIndex d.base (suc i.number)
 index_is d i =
     let l : i.number < rank d.base = ltb_yes (and_yes (ltb i.number (rank d.base)) (is_some (place_of (all_roots d) (simple (suc i.number)))) i.lawful).0 in
     (omega arith, omega (arith, l))
 
 -- simple indices with one number are equal
-pub same_index : (d : Roots) (i j : Index d) → i.number ≡ j.number → i ≡ j
+pub same_index : (d : RootDatum) (i j : Index d) → i.number ≡ j.number → i ≡ j
 same_index d i j e =
     let pairs : ◌≡◌ {A = (n : ℕ) × T (is_index d n)} (i.number, i.lawful) (j.number, j.lawful) = Σ_prop_path (λ n. T_prop _) e in
     λ k. record { number = (pairs k).0; lawful = (pairs k).1 }
 
 -- a number whose simple root is a member of the list is that of a simple index
-index_at : (d : Roots) (k : ℕ) → k < rank d.base → In (simple (suc k)) (all_roots d) → (i : Index d) × (i.number ≡ k)
+index_at : (d : RootDatum) (k : ℕ) → k < rank d.base → In (simple (suc k)) (all_roots d) → (i : Index d) × (i.number ≡ k)
 index_at d k l h =
     let p = place_found (all_roots d) (simple (suc k)) h in
     (record { number = k; lawful = yes_and (ltb k (rank d.base)) (is_some (place_of (all_roots d) (simple (suc k)))) (yes_ltb l) (subst (λ o. T (is_some o)) (sym p.1) tt) }, refl)
 
 -- and the other way round, counted from 1
-pub index_of_number : (d : Roots) (k : ℕ) → IsIndex d k → (i : Index d) × (suc i.number ≡ k)
+pub index_of_number : (d : RootDatum) (k : ℕ) → IsIndex d k → (i : Index d) × (suc i.number ≡ k)
 index_of_number d zero h = absurd (let l = h.0.0 in omega (arith, l))
 index_of_number d (suc k) h =
     let i = index_at d k (let l = h.0.1 in omega (arith, l)) (in_from_contains (all_roots d) (simple (suc k)) h.1) in
     (i.0, ap suc i.1)
 
 -- and a simple index has such a number
-pub number_of_index : (d : Roots) (i : Index d) → IsIndex d (suc i.number)
+pub number_of_index : (d : RootDatum) (i : Index d) → IsIndex d (suc i.number)
 number_of_index d i = (
   index_is d i,
   subst (Contains (all_roots d)) (simple_at d i)
@@ -120,13 +120,13 @@ number_of_index d i = (
 
 -- ---- signed numbers
 -- the number of a name is that of its root
-pub record IsNamed (d : Roots) (r : RootName d) : Type 0 where
+pub record IsNamed (d : RootDatum) (r : RootName d) : Type 0 where
   pub number : IsNumber d (signed_number d r)
   pub root : root_of d (signed_number d r) ≡ root_at d r
   pub place : place (length d.positive) (signed_number d r) ≡ r.number
 
 -- the number of a name
-pub named_is : (d : Roots) (r : RootName d) → IsNamed d r
+pub named_is : (d : RootDatum) (r : RootName d) → IsNamed d r
 unfolding signed_number
 named_is d r =
     let l = is_below (length (all_roots d)) r in
@@ -135,12 +135,12 @@ named_is d r =
     record { number = at.number; root = sym (at.root nothing); place = at.place }
 
 -- names with one number are equal
-pub same_number : (d : Roots) (r s : RootName d) → signed_number d r ≡ signed_number d s → r ≡ s
+pub same_number : (d : RootDatum) (r s : RootName d) → signed_number d r ≡ signed_number d s → r ≡ s
 same_number d r s e =
     same_below (length (all_roots d)) r s (sym (named_is d r).place ∙ ap (place (length d.positive)) e ∙ (named_is d s).place)
 
 -- a number of a root has a name
-pub name_of_number : (d : Roots) (k : ℤ) → IsNumber d k → (r : RootName d) × (signed_number d r ≡ k)
+pub name_of_number : (d : RootDatum) (k : ℤ) → IsNumber d k → (r : RootName d) × (signed_number d r ≡ k)
 unfolding signed_number
 name_of_number d k h =
     let m = length d.positive in
@@ -151,7 +151,7 @@ name_of_number d k h =
       same_place m (number_at m (place m k)) k (place_within d (number_at m (place m k)) at.number) w at.place,
     )
 
-module _ (d : Roots) (loaded : IsLoaded d) where
+module _ (d : RootDatum) (loaded : IsLoaded d) where
   -- each number below the rank is that of a simple root
   pub index_of : (k : ℕ) → k < rank d.base → (i : Index d) × (i.number ≡ k)
   index_of k h = index_at d k h (all_in d loaded (simple (suc k)) (is_simple (suc k) (omega arith, omega (arith, h))))

@@ -10,12 +10,12 @@ use Rattle.lie_base.specs.Below.{Below, same_below, is_below, first_place, next_
 use Rattle.lie_datum.specs.declared.root_pair.Root.{Root}
 use Rattle.lie_datum.specs.Vectors.{Vector, entry, pairing, plus, times, minus, unit}
 use Rattle.lie_datum.specs.RootDatum.{rank, vector, covector, simple, opposite, reflected, simple_coroot, simple_root, IsPositive, cartan}
-use Rattle.lie_datum.specs.RootList.{Roots, all_roots, IsLoaded}
+use Rattle.lie_datum.specs.RootList.{RootDatum, all_roots, IsLoaded}
 use Rattle.lie_base.proofs.RingSolver.{ring, var, num, ◌⊕◌, ◌⊗◌}
 use Rattle.lie_datum.proofs.Linear.{pairing-combination}
 use Rattle.lie_datum.proofs.Entries.{entry-times, entry_past, within_or_past}
 use Rattle.lie_datum.proofs.Roots.{root_self, simple_vector, simple_covector, same_root as same_pair}
-use Rattle.lie_datum.proofs.ThirdLaw.{any_at}
+use Rattle.lie_datum.proofs.HeightLaw.{any_at}
 use Rattle.lie_datum.proofs.LoadedLaws.{short, stays, simple_is_positive, at_entry}
 use Rattle.lie_datum.proofs.HeightLemmas.{positive_number, number_is_positive}
 use Rattle.lie_letters.specs.Names.{signed_number, RootName, Index, root_at, simple_name, opposite_name, reflect_name, is_negative_name, positive_names}
@@ -53,7 +53,7 @@ not_negative_from : (v : Vector) → ((k : ℕ) → pos 0 ≤ℤ entry v k) → 
 not_negative_from v h =
     ⊎_elim (λ (e : has_negative v ≡ true). (let q = some_negative v e in let n = h q.0 in let m = q.2 in absurd (omega (arith, ints, n, m)))) (λ (e : has_negative v ≡ false). e) (cases_Bool (has_negative v))
 
-module _ (d : Roots) (loaded : IsLoaded d) where
+module _ (d : RootDatum) (loaded : IsLoaded d) where
   test : (r : RootName d) → is_negative_name d r ≡ has_negative (root_at d r).coeffs
   unfolding is_negative_name
   test r = refl
@@ -233,7 +233,7 @@ module _ {A : Type 0} (keep : A → Bool) where
       by rest true = there apart rest
       by rest false = rest
 
-module _ (d : Roots) (loaded : IsLoaded d) where
+module _ (d : RootDatum) (loaded : IsLoaded d) where
   -- each positive root stands in the list once
   pub listed : (r : RootName d) → is_negative_name d r ≡ false → Once r (positive_names d)
   unfolding positive_names

@@ -6,7 +6,7 @@ use Rattle.std.proofs.Math.ListN.{length-map}
 use Rattle.std.proofs.lemmas.Bool.{cases_eq}
 use Rattle.lie_datum.specs.Vectors.{Vector, entry, pairing, plus, times, unit, combination}
 use Rattle.lie_datum.specs.RootDatum.{rank, vector, covector, root_pairing, simple_coroot}
-use Rattle.lie_datum.specs.RootList.{Roots, IsLoaded}
+use Rattle.lie_datum.specs.RootList.{RootDatum, IsLoaded}
 use Rattle.lie_base.proofs.RingSolver.{ring, var, num, ◌⊕◌, ◌⊗◌}
 use Rattle.lie_datum.proofs.Linear.{pairing-combination}
 use Rattle.lie_datum.proofs.Entries.{entry-unit}
@@ -61,7 +61,7 @@ pairing-sums x y (c ∷ cs) (a ∷ as') (b ∷ bs) (w ∷ ws) l m h =
     ((var 0 ⊗ var 2 ⊕ var 1 ⊗ var 3) ⊗ var 4 ⊕ (var 0 ⊗ var 5 ⊕ var 1 ⊗ var 6))
     (var 0 ⊗ (var 2 ⊗ var 4 ⊕ var 5) ⊕ var 1 ⊗ (var 3 ⊗ var 4 ⊕ var 6)) refl
 
-module _ (d : Roots) (loaded : IsLoaded d) where
+module _ (d : RootDatum) (loaded : IsLoaded d) where
   -- a root has eight coefficients
   pub lengths : (r : RootName d) → length (root_at d r).coeffs ≡ 8
   lengths r = (root_lengths d.base (short d loaded) loaded.axioms.input.corank (root_at d r) (at_root d loaded r)).0

@@ -6,7 +6,7 @@ use Rattle.lie_field.specs.Elements
 use Rattle.lie_datum.specs.declared.root_pair.Root.{Root}
 use Rattle.lie_datum.specs.Vectors.{Vector, pairing, plus, times, minus, unit}
 use Rattle.lie_datum.specs.RootDatum.{Base, vector, covector, opposite, reflected, simple_coroot, simple_root}
-use Rattle.lie_datum.specs.RootList.{Roots, IsLoaded}
+use Rattle.lie_datum.specs.RootList.{RootDatum, IsLoaded}
 use Rattle.lie_datum.proofs.Linear.{pairing-times, times-pairing}
 use Rattle.lie_datum.proofs.Roots.{same_root as same_pair}
 use Rattle.lie_letters.proofs.TorusLaws
@@ -35,7 +35,7 @@ reflected-opposite b i r =
     (ap (λ v. pairing (simple_root b i) v) (combination-times minus_one r.co_coeffs b.coroots) ∙ times-pairing (simple_root b i) minus_one (covector b r)))
 
 -- and so for names
-pub reflect_opposite : (d : Roots) → IsLoaded d → (i : Index d) (r : RootName d) → reflect_name d i (opposite_name d r) ≡ opposite_name d (reflect_name d i r)
+pub reflect_opposite : (d : RootDatum) → IsLoaded d → (i : Index d) (r : RootName d) → reflect_name d i (opposite_name d r) ≡ opposite_name d (reflect_name d i r)
 reflect_opposite d loaded i r =
     same_name d loaded (reflect_name d i (opposite_name d r)) (opposite_name d (reflect_name d i r))
     (reflect_at d loaded i (opposite_name d r) ∙ ap (reflected d.base (suc i.number)) (opposite_at d loaded r)

@@ -3,7 +3,7 @@ use Rattle.std.proofs.Common.{◌≡◌, ℕ, zero, suc, ◌<◌, List, [], ◌�
 use Rattle.lie_field.specs.FiniteField.{FiniteField}
 use Rattle.lie_field.specs.Elements.{Elem, elem_neg, elem_mul}
 use Rattle.lie_datum.specs.RootDatum.{opposite}
-use Rattle.lie_datum.specs.RootList.{Roots, IsLoaded, root_of}
+use Rattle.lie_datum.specs.RootList.{RootDatum, IsLoaded, root_of}
 use Rattle.lie_datum.proofs.SignedRoots.{opposite_number}
 use Rattle.lie_const.specs.CommutatorTerms.{IsPair}
 use Rattle.lie_const.specs.ConstantTables.{ConstantTable, value_of, terms_of, LoadsConstants}
@@ -19,7 +19,7 @@ use Rattle.lie_letters.specs.Spelled.{spelled, JoinedSpelled}
 use Rattle.lie_letters.proofs.ChainLemmas.{by_relation, carried}
 use Rattle.lie_letters.proofs.NameLemmas.{named_is, same_number, same_name, opposite_at}
 
-module _ (F : FiniteField) (D : Roots) (c e : ConstantTable) (loaded : IsLoaded D) (here : LoadsConstants D (Ok c)) (there : LoadsConstants D (Ok e)) where
+module _ (F : FiniteField) (D : RootDatum) (c e : ConstantTable) (loaded : IsLoaded D) (here : LoadsConstants D (Ok c)) (there : LoadsConstants D (Ok e)) where
   abbrev f : FrameData
   f = record { field = F; datum = D; constants = c }
 
@@ -94,7 +94,7 @@ module _ (F : FiniteField) (D : Roots) (c e : ConstantTable) (loaded : IsLoaded 
 -- words that are joined in a lawful frame are joined in each one with its field and its datum
 pub joined_elsewhere : (f g : FrameData) (u v : List CodeLetter) → IsLawfulFrame f → IsLawfulFrame g → f.field ≡ g.field → f.datum ≡ g.datum → JoinedSpelled f u v → JoinedSpelled g u v
 joined_elsewhere f g u v a b same_field same_datum d =
-    subst (λ F. (D : Roots) → f.datum ≡ D → IsLawfulFrame (record { field = F; datum = D; constants = g.constants }) → JoinedSpelled (record { field = F; datum = D; constants = g.constants }) u v)
+    subst (λ F. (D : RootDatum) → f.datum ≡ D → IsLawfulFrame (record { field = F; datum = D; constants = g.constants }) → JoinedSpelled (record { field = F; datum = D; constants = g.constants }) u v)
     same_field
     (λ D e. subst (λ D. IsLawfulFrame (record { field = f.field; datum = D; constants = g.constants }) → JoinedSpelled (record { field = f.field; datum = D; constants = g.constants }) u v) e
     (λ h. joined_moved f.field f.datum f.constants g.constants a.loaded a.constants h.constants u v d))

@@ -10,7 +10,7 @@ use Rattle.lie_base.proofs.Members.{In, here, there}
 use Rattle.lie_datum.specs.declared.root_pair.Root.{Root}
 use Rattle.lie_datum.specs.Vectors.{Vector, plus, times, minus}
 use Rattle.lie_datum.specs.RootDatum.{opposite}
-use Rattle.lie_datum.specs.RootList.{Roots, IsLoaded, IsNumber, root_of, all_roots, IsRootVector, IsRun, IsString}
+use Rattle.lie_datum.specs.RootList.{RootDatum, IsLoaded, IsNumber, root_of, all_roots, IsRootVector, IsRun, IsString}
 use Rattle.lie_datum.proofs.NumberLemmas.{within, some_map, some_within}
 use Rattle.lie_datum.proofs.SignedRoots.{number_is}
 use Rattle.lie_datum.proofs.LoadedLaws.{all_only, all_in}
@@ -57,7 +57,7 @@ some_at (suc n) t e =
     (or_cases (t n) (some_below n t) e)
 
 -- ---- the tests
-module _ (d : Roots) where
+module _ (d : RootDatum) where
   -- each number of a root, and each positive one
   abbrev each_number : (ℤ → Bool) → Bool
   each_number t = each_below (length d.positive) (λ k. t (pos (suc k)) && t (negsuc k))
@@ -141,14 +141,14 @@ module _ (d : Roots) where
     terms_test r s (e ∷ es) (t ∷ ts) = term_test r s e t && terms_test r s es ts
 
 -- the table holds the constants and the terms
-abbrev pub constants_test : Roots → ConstantTable → Bool
+abbrev pub constants_test : RootDatum → ConstantTable → Bool
 constants_test d c =
     eqb c.positive (length d.positive)
     && (table_test d (value_of c)
     && each_number d (λ r. each_number d (λ s. int_eq s r || (int_eq s (neg_ℤ r) || terms_test d (value_of c) r s (term_exponents d r s) (terms_of c r s)))))
 
 -- ---- what the tests say
-module _ (d : Roots) where
+module _ (d : RootDatum) where
   number_at : (t : ℤ → Bool) → each_number d t ≡ true → (k : ℤ) → IsNumber d k → t k ≡ true
   number_at t e (pos zero) h = cc
   number_at t e (pos (suc k)) h =
@@ -352,7 +352,7 @@ module _ (d : Roots) where
         (record { i = eqb-true t.i x.0 a.0; j = eqb-true t.j x.1 a.1; root = is_equal _ _ b.0; value = is_equal _ _ b.1 }, terms_from n r s es ts p.1)
 
 -- a table that passes holds the constants and the terms
-pub constants_from : (d : Roots) (c : ConstantTable) → IsLoaded d → constants_test d c ≡ true → LoadsConstants d (Ok c)
+pub constants_from : (d : RootDatum) (c : ConstantTable) → IsLoaded d → constants_test d c ≡ true → LoadsConstants d (Ok c)
 constants_from d c loaded e =
     let p = and_parts (eqb c.positive (length d.positive)) _ e in
     let q = and_parts (table_test d (value_of c)) _ p.1 in (

@@ -11,7 +11,7 @@ use Rattle.lie_base.proofs.Members.{In, here, there, from_map}
 use Rattle.lie_datum.specs.declared.root_pair.Root.{Root}
 use Rattle.lie_datum.specs.Vectors.{Vector, plus, times, minus, total, entry}
 use Rattle.lie_datum.specs.RootDatum.{opposite, IsRoot}
-use Rattle.lie_datum.specs.RootList.{Roots, IsLoaded, IsNumber, root_of, all_roots, height}
+use Rattle.lie_datum.specs.RootList.{RootDatum, IsLoaded, IsNumber, root_of, all_roots, height}
 use Rattle.lie_datum.proofs.ClosureLemmas.{in_one}
 use Rattle.lie_datum.proofs.NumberLemmas.{some_within}
 use Rattle.lie_datum.proofs.Entries.{entry-plus, entry-times}
@@ -70,11 +70,11 @@ minus-minus : (v : Vector) → minus (minus v) ≡ v
 minus-minus v = ap (λ r. r.coeffs) (twice_opposite (record { coeffs = v; co_coeffs = [] }))
 
 -- the number k names a root with the coefficients v
-pub record Names (d : Roots) (v : Vector) (k : ℤ) : Type 0 where
+pub record Names (d : RootDatum) (v : Vector) (k : ℤ) : Type 0 where
   pub number : IsNumber d k
   pub coeffs : coeffs_of d k ≡ v
 
-module _ (d : Roots) (v : Vector) where
+module _ (d : RootDatum) (v : Vector) where
   abbrev nothing : Root
   nothing = record { coeffs = []; co_coeffs = [] }
 
@@ -146,13 +146,13 @@ large_exponents =
     ((omega arith, omega arith), ((omega arith, omega arith), ((omega arith, omega arith), ((omega arith, omega arith), ((omega arith, omega arith), ((omega arith, omega arith), ((omega arith, omega arith), tt)))))))
 
 -- the term is at the root i r + j s, and i and j are at least 1
-pub record IsTermAt (d : Roots) (r s : ℤ) (c : Term) : Type 0 where
+pub record IsTermAt (d : RootDatum) (r s : ℤ) (c : Term) : Type 0 where
   pub first : 1 ≤ c.i
   pub second : 1 ≤ c.j
   pub number : IsNumber d c.root
   pub coeffs : coeffs_of d c.root ≡ plus (times (pos c.i) (coeffs_of d r)) (times (pos c.j) (coeffs_of d s))
 
-module _ (d : Roots) (loaded : IsLoaded d) where
+module _ (d : RootDatum) (loaded : IsLoaded d) where
   term_at : (n : ℤ → ℤ → ℤ) (r s : ℤ) (c : Term) (e : ℕ × ℕ) → In e exponents → is_some (find_root d (term_vector d r s e)) ≡ true → IsTerm d n r s e c → IsTermAt d r s c
   term_at n r s c e m passes t =
       let large = in_exponents e exponents large_exponents m in
@@ -214,13 +214,13 @@ multiple_large (suc k) z l h = let m = not_negative k z h in omega (arith, ints,
     not_negative (suc k) z h = let m = not_negative k z h in omega (arith, ints, m, h)
 
 -- the term is at a root that stands after r and s
-pub record IsLaterTerm (d : Roots) (r s : ℤ) (c : Term) : Type 0 where
+pub record IsLaterTerm (d : RootDatum) (r s : ℤ) (c : Term) : Type 0 where
   pub at : IsTermAt d r s c
   pub positive : pos 0 <ℤ c.root
   pub after_first : r <ℤ c.root
   pub after_second : s <ℤ c.root
 
-module _ (d : Roots) (loaded : IsLoaded d) (r s : ℤ) (m : IsNumber d r) (n : IsNumber d s) (p : pos 0 <ℤ r) (q : pos 0 <ℤ s) where
+module _ (d : RootDatum) (loaded : IsLoaded d) (r s : ℤ) (m : IsNumber d r) (n : IsNumber d s) (p : pos 0 <ℤ r) (q : pos 0 <ℤ s) where
   height-term : (c : Term) → IsTermAt d r s c → height (root_of d c.root) ≡ multiple c.i (height (root_of d r)) +ℤ multiple c.j (height (root_of d s))
   height-term c h =
       ap (total (λ z. z)) h.coeffs

@@ -6,7 +6,7 @@ use Rattle.std.proofs.Math.Facts.{yes_eqb}
 use Rattle.lie_field.specs.FiniteField.{FiniteField}
 use Rattle.lie_field.specs.Elements.{Elem, zero_elem, one_elem, elem_add, elem_neg, elem_mul, elem_inv, elem_int, as_nonzero}
 use Rattle.lie_datum.specs.RootDatum.{vector, simple_coroot}
-use Rattle.lie_datum.specs.RootList.{Roots, IsLoaded}
+use Rattle.lie_datum.specs.RootList.{RootDatum, IsLoaded}
 use Rattle.lie_const.specs.declared.term.Term.{Term as ConstantTerm}
 use Rattle.lie_const.specs.ConstantTables.{ConstantTable, terms_of, LoadsConstants}
 use Rattle.lie_letters.specs.Torus.{Torus as TorusOver, torus_one as one_over, torus_mul as mul_over, torus_inv as inv_over}
@@ -17,7 +17,7 @@ use Rattle.lie_letters.specs.Setting.{Setting, Term}
 -- the values that words speak of
 pub record FrameData : Type 0 where
   pub field : FiniteField
-  pub datum : Roots
+  pub datum : RootDatum
   pub constants : ConstantTable
 
 -- the dimension of the torus

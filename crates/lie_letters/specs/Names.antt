@@ -1,4 +1,4 @@
--- Roots and simple roots of a datum as types: the places of the full order r_1, .., r_m, r_(-1), .., r_(-m), counted from 0.
+-- RootDatum and simple roots of a datum as types: the places of the full order r_1, .., r_m, r_(-1), .., r_(-m), counted from 0.
 -- Own: an operation whose result is no root of the list answers the root that it began with, so each one is total.
 --
 --   a root                   RootName d              its place in the full order
@@ -12,7 +12,7 @@ use Rattle.lie_base.specs.Below.{Below, first_place, next_place, places}
 use Rattle.lie_datum.specs.Numbers.{number_at}
 use Rattle.lie_datum.specs.declared.root_pair.Root.{Root}
 use Rattle.lie_datum.specs.RootDatum.{rank, simple, opposite, reflected}
-use Rattle.lie_datum.specs.RootList.{Roots, all_roots, root_of}
+use Rattle.lie_datum.specs.RootList.{RootDatum, all_roots, root_of}
 use Rattle.lie_const.specs.StructureConstants.{same_vector}
 
 -- the same coefficients, of the root and of its coroot
@@ -25,23 +25,23 @@ place_of [] r = None
 place_of (s ∷ rs) r = cond (same_root s r) (Some (first_place (length rs))) (option_map (next_place (length rs)) (place_of rs r))
 
 -- a root of the datum
-abbrev pub RootName : Roots → Type 0
+abbrev pub RootName : RootDatum → Type 0
 RootName d = Below (length (all_roots d))
 
 -- the root that a name stands for
-abbrev pub root_at : (d : Roots) → RootName d → Root
+abbrev pub root_at : (d : RootDatum) → RootName d → Root
 root_at d r = slice_index_or (all_roots d) r.number (record { coeffs = []; co_coeffs = [] })
 
 -- the name of a root, or the given name where it has none
-abbrev pub named : (d : Roots) → RootName d → Root → RootName d
+abbrev pub named : (d : RootDatum) → RootName d → Root → RootName d
 named d other r = unwrap_or (place_of (all_roots d) r) other
 
 -- the simple root with this number, counted from 0, is one of the datum and stands in the list
-abbrev pub is_index : Roots → ℕ → Bool
+abbrev pub is_index : RootDatum → ℕ → Bool
 is_index d k = ltb k (rank d.base) && is_some (place_of (all_roots d) (simple (suc k)))
 
 -- a simple index, counted from 0
-pub record Index (d : Roots) : Type 0 where
+pub record Index (d : RootDatum) : Type 0 where
   pub number : ℕ
   pub lawful : T (is_index d number)
 
@@ -56,29 +56,29 @@ right_of true b t = t
 right_of false b t = absurd t
 
 -- the simple root
-unfoldable pub simple_name : (d : Roots) → Index d → RootName d
+unfoldable pub simple_name : (d : RootDatum) → Index d → RootName d
 simple_name d i = some_of (place_of (all_roots d) (simple (suc i.number))) (right_of (ltb i.number (rank d.base)) (is_some (place_of (all_roots d) (simple (suc i.number)))) i.lawful)
 
 -- the opposite root
-unfoldable pub opposite_name : (d : Roots) → RootName d → RootName d
+unfoldable pub opposite_name : (d : RootDatum) → RootName d → RootName d
 opposite_name d r = named d r (opposite (root_at d r))
 
 -- the simple reflection
-unfoldable pub reflect_name : (d : Roots) → Index d → RootName d → RootName d
+unfoldable pub reflect_name : (d : RootDatum) → Index d → RootName d → RootName d
 reflect_name d i r = named d r (reflected d.base (suc i.number) (root_at d r))
 
 -- some coefficient is below 0
-unfoldable pub is_negative_name : (d : Roots) → RootName d → Bool
+unfoldable pub is_negative_name : (d : RootDatum) → RootName d → Bool
 is_negative_name d r = list_any (λ c. int_lt c (pos 0)) (root_at d r).coeffs
 
 -- the roots that are not negative, in order
-unfoldable pub positive_names : (d : Roots) → List (RootName d)
+unfoldable pub positive_names : (d : RootDatum) → List (RootName d)
 positive_names d = filter (λ r. not (is_negative_name d r)) (places (all_roots d))
 
 -- the signed number of a root
-unfoldable pub signed_number : (d : Roots) → RootName d → ℤ
+unfoldable pub signed_number : (d : RootDatum) → RootName d → ℤ
 signed_number d r = number_at (length d.positive) r.number
 
 -- the root of a signed number, or the given root where there is none
-unfoldable pub numbered_name : (d : Roots) → RootName d → ℤ → RootName d
+unfoldable pub numbered_name : (d : RootDatum) → RootName d → ℤ → RootName d
 numbered_name d other k = named d other (root_of d k)

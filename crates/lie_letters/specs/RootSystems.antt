@@ -7,7 +7,7 @@
 use Rattle.std.specs.Prelude.{◌≡◌, ℕ, zero, suc, ℤ, pos, ◌+ℤ◌, ◌-ℤ◌, ◌≤ℤ◌, List, [], ◌∷◌, ◌⊎◌, Bool, true, false}
 use Rattle.lie_datum.specs.Vectors.{entry}
 use Rattle.lie_datum.specs.RootDatum.{root_pairing}
-use Rattle.lie_datum.specs.RootList.{Roots}
+use Rattle.lie_datum.specs.RootList.{RootDatum}
 use Rattle.lie_letters.specs.Names.{RootName, Index, root_at, simple_name, reflect_name}
 
 -- roots, with no law of them
@@ -21,15 +21,15 @@ pub record RootSystem : Type 1 where
   pub pairing : Root → Root → ℤ
 
 -- the coefficient at a simple root
-abbrev pub coefficient_at : (d : Roots) → RootName d → Index d → ℤ
+abbrev pub coefficient_at : (d : RootDatum) → RootName d → Index d → ℤ
 coefficient_at d r k = entry (root_at d r).coeffs k.number
 
 -- the pairing with the coroot of another root
-abbrev pub pairing_at : (d : Roots) → RootName d → RootName d → ℤ
+abbrev pub pairing_at : (d : RootDatum) → RootName d → RootName d → ℤ
 pairing_at d r s = root_pairing d.base (root_at d r) (root_at d s)
 
 -- the root system of a datum
-abbrev pub root_system : Roots → RootSystem
+abbrev pub root_system : RootDatum → RootSystem
 root_system d = record {
   Root = RootName d;
   Index = Index d;

@@ -13,7 +13,7 @@ use Rattle.lie_field.specs.FiniteField.{FiniteField}
 use Rattle.lie_field.specs.Quotient.{order, neg}
 use Rattle.lie_field.specs.Elements.{NonZero}
 use Rattle.lie_datum.specs.RootDatum.{simple, IsSimpleIndex}
-use Rattle.lie_datum.specs.RootList.{Roots, all_roots, IsNumber}
+use Rattle.lie_datum.specs.RootList.{RootDatum, all_roots, IsNumber}
 use Rattle.lie_letters.specs.declared.letter.Letter.{Letter as CodeLetter}
 use Rattle.lie_letters.specs.declared.letter.Letter.TheVariants.{X as CodeX, H as CodeH, N as CodeN, Ninv as CodeNinv}
 use Rattle.lie_letters.specs.Entries.{AreUnits, inverses}
@@ -43,7 +43,7 @@ pub record JoinedSpelled (f : FrameData) (u v : List CodeLetter) : Type 0 where
   pub joined : Joined (setting f) left right
 
 -- the number of a simple root that stands among the roots; in a loaded datum each simple root does
-abbrev pub IsIndex : Roots → ℕ → Type 0
+abbrev pub IsIndex : RootDatum → ℕ → Type 0
 IsIndex d i = IsSimpleIndex d.base i × Contains (all_roots d) (simple i)
 
 -- a letter of the frame: the number of a root and an element, a unit for each coordinate of the torus, or a simple index

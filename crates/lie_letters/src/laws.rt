@@ -4,7 +4,7 @@ ghost use Rattle.lie_field.specs.FiniteField.{FiniteField};
 ghost use Rattle.lie_field.specs.Quotient.{mul};
 ghost use Rattle.lie_field.specs.FieldRing.{field_ring};
 ghost use Rattle.lie_datum.specs.RootDatum.{vector};
-ghost use Rattle.lie_datum.specs.RootList.{Roots, IsLoaded, root_of};
+ghost use Rattle.lie_datum.specs.RootList.{RootDatum, IsLoaded, root_of};
 ghost use Rattle.lie_letters.specs.Entries.{IsTorusGroup, character};
 ghost use Rattle.lie_letters.specs.Chains.{IsChain};
 ghost use Rattle.lie_letters.specs.Frames.{FrameData, setting, IsLawfulFrame};
@@ -78,12 +78,12 @@ pub fn setting_laws()
 /// The roots of a loaded datum are determined by their coefficients, and simple reflections keep the
 /// pairings.
 pub fn root_system_laws()
-    ensures { (d : Roots) → IsLoaded d → RootLaws (root_system d) }
+    ensures { (d : RootDatum) → IsLoaded d → RootLaws (root_system d) }
 {}
 
 /// Which roots of a loaded datum are negative, and how opposites and simple reflections change that.
 pub fn positive_root_laws()
-    ensures { (d : Roots) → IsLoaded d → PositiveLaws (root_system d) (opposite_name d) (is_negative_name d) (positive_names d) }
+    ensures { (d : RootDatum) → IsLoaded d → PositiveLaws (root_system d) (opposite_name d) (is_negative_name d) (positive_names d) }
 {}
 
 /// In a lawful frame positive roots are not opposite, the order of the roots is total, and the terms of two

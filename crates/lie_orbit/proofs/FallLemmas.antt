@@ -7,12 +7,12 @@ use Rattle.lie_base.proofs.Members.{In, here, there}
 use Rattle.lie_datum.specs.Vectors.{Vector, pairing, times, total, entry}
 use Rattle.lie_datum.specs.declared.root_pair.Root.{Root}
 use Rattle.lie_datum.specs.RootDatum.{covector, vector, IsRoot, IsWithin}
-use Rattle.lie_datum.specs.RootList.{Roots, root_of, IsNumber, IsLoaded, all_roots, form, length2}
+use Rattle.lie_datum.specs.RootList.{RootDatum, root_of, IsNumber, IsLoaded, all_roots, form, length2}
 use Rattle.lie_datum.proofs.Entries.{entry-plus, entry-times, within_or_past}
 use Rattle.lie_datum.proofs.Linear.{pairing-plus, pairing-times, pairing_comm}
 use Rattle.lie_datum.proofs.Turns.{pairing-combination-times}
 use Rattle.lie_datum.proofs.Squares.{squares_not_negative, square_within}
-use Rattle.lie_datum.proofs.FirstLaw.{form_comm, form_linear}
+use Rattle.lie_datum.proofs.FormLaw.{form_comm, form_linear}
 use Rattle.lie_datum.proofs.ClosureLemmas.{pigeonhole, in_from_contains}
 use Rattle.lie_datum.proofs.LoadedLaws.{all_only, all_in, all_simple, self, first}
 use Rattle.lie_datum.proofs.SignedRoots.{root_is, number_is, opposite_number}
@@ -94,19 +94,19 @@ abs_coroot_pairing (a ∷ x) (b ∷ y) p q =
     omega (arith, h, s, m)
 
 -- the sum of the squares of the pairings with all coroots
-abbrev pub norm : Roots → Vector → ℕ
+abbrev pub norm : RootDatum → Vector → ℕ
 norm d x = unsigned_abs (form d x x)
 
 -- the weight w is on the way from v: each entry has moved no further than the norm has fallen
-pub record IsOnTheWay (d : Roots) (v w : Vector) : Type 0 where
+pub record IsOnTheWay (d : RootDatum) (v w : Vector) : Type 0 where
   pub leads : (y : Vector) → Lowers d w y → Lowers d v y
   pub near : (k : ℕ) → unsigned_abs (entry w k) + 20000 * norm d w ≤ 8000001 + 20000 * norm d v
 
 -- a weight is on the way from itself
-pub way_start : (d : Roots) (v : Vector) → IsWithin 8000001 v → IsOnTheWay d v v
+pub way_start : (d : RootDatum) (v : Vector) → IsWithin 8000001 v → IsOnTheWay d v v
 way_start d v small = record { leads = λ y l. l; near = λ k. (let e = entry_within 8000001 v k small in omega (arith, e)) }
 
-module _ (d : Roots) (loaded : IsLoaded d) where
+module _ (d : RootDatum) (loaded : IsLoaded d) where
   -- ---- the norm
   form_positive : (x : Vector) → pos 0 ≤ℤ form d x x
   form_positive x = squares_not_negative (λ s. pairing x (covector d.base s)) (all_roots d)

@@ -2,7 +2,7 @@
 use Rattle.std.proofs.Common.{◌≡◌, ℤ, length, refl, ap, subst, ◌∙◌, arith, ⊎_elim}
 use Rattle.std.proofs.lemmas.Int.{ints}
 use Rattle.lie_datum.specs.Vectors.{Vector}
-use Rattle.lie_datum.specs.RootList.{Roots}
+use Rattle.lie_datum.specs.RootList.{RootDatum}
 use Rattle.lie_datum.specs.Numbers.{place}
 use Rattle.lie_datum.proofs.Entries.{within_or_past}
 use Rattle.lie_datum.proofs.NumberLemmas.{place_within}
@@ -13,7 +13,7 @@ use Rattle.lie_orbit.specs.Laws.{LowersOneWay}
 one_half : (m a b : ℤ) → IsHalf m a → IsHalf m b → a ≡ b
 one_half m a b p q = let x = p.0 in let y = p.1 in let z = q.0 in let w = q.1 in omega (arith, ints, x, y, z, w)
 
-one_high : (d : Roots) (x : Vector) (r s : ℤ) → IsFirstHigh d x r → IsFirstHigh d x s → r ≡ s
+one_high : (d : RootDatum) (x : Vector) (r s : ℤ) → IsFirstHigh d x r → IsFirstHigh d x s → r ≡ s
 one_high d x r s a b =
     let m = length d.positive in
     same_place m r s (place_within d r a.number) (place_within d s b.number)

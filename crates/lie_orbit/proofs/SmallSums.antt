@@ -9,11 +9,11 @@ use Rattle.lie_base.proofs.Members.{In, here, there}
 use Rattle.lie_datum.specs.Vectors.{Vector, pairing, plus, times, total, entry}
 use Rattle.lie_datum.specs.declared.root_pair.Root.{Root}
 use Rattle.lie_datum.specs.RootDatum.{IsRoot, vector, covector, opposite, root_pairing}
-use Rattle.lie_datum.specs.RootList.{Roots, IsLoaded, all_roots, form, length2}
+use Rattle.lie_datum.specs.RootList.{RootDatum, IsLoaded, all_roots, form, length2}
 use Rattle.lie_datum.proofs.Entries.{entry-plus}
 use Rattle.lie_datum.proofs.Linear.{pairing-plus, pairing-times}
 use Rattle.lie_datum.proofs.VectorLemmas.{entry-combination}
-use Rattle.lie_datum.proofs.FirstLaw.{form_comm, form_linear}
+use Rattle.lie_datum.proofs.FormLaw.{form_comm, form_linear}
 use Rattle.lie_datum.proofs.NormBound.{same_or_not, product_positive, length_positive}
 use Rattle.lie_datum.proofs.ClosureLemmas.{contains_from_in}
 use Rattle.lie_datum.proofs.LoadedLaws.{first, second}
@@ -57,7 +57,7 @@ small_factor (negsuc m) n h p =
     let e = ring (pos (suc m) ∷ (n ∷ [])) (neg (var 0) ⊗ var 1) (neg (var 0 ⊗ var 1)) refl in
     omega (arith, ints, l, e, p)
 
-module _ (d : Roots) (loaded : IsLoaded d) where
+module _ (d : RootDatum) (loaded : IsLoaded d) where
   abbrev V : Root → Vector
   V r = vector d.base r
 

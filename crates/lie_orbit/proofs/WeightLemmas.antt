@@ -5,7 +5,7 @@ use Rattle.std.proofs.lemmas.List.{get_or_default}
 use Rattle.lie_datum.specs.Vectors.{Vector, pairing, combination, entry}
 use Rattle.lie_datum.specs.Numbers.{place, number_at}
 use Rattle.lie_datum.specs.RootDatum.{vector, covector, IsWithin}
-use Rattle.lie_datum.specs.RootList.{Roots, root_of, IsNumber, IsLoaded}
+use Rattle.lie_datum.specs.RootList.{RootDatum, root_of, IsNumber, IsLoaded}
 use Rattle.lie_datum.proofs.Entries.{within_or_past}
 use Rattle.lie_datum.proofs.NumberLemmas.{numbered_at, place_within}
 use Rattle.lie_datum.proofs.SignedRoots.{root_is, same_place}
@@ -43,7 +43,7 @@ pub within_more : (m n : ℕ) (v : Vector) → m ≤ n → IsWithin m v → IsWi
 within_more m n v l h k z p = let b = h k z p in omega (arith, b, l)
 
 -- ---- roots and coroots
-module _ (d : Roots) (loaded : IsLoaded d) where
+module _ (d : RootDatum) (loaded : IsLoaded d) where
   pub covector_within : (r : ℤ) → IsNumber d r → IsWithin 80000 (covector d.base (root_of d r))
   covector_within r n =
       let small = loaded.axioms.finite.small (root_of d r) (root_is d loaded r n) in
@@ -55,7 +55,7 @@ module _ (d : Roots) (loaded : IsLoaded d) where
       combination_within (root_of d r).coeffs d.base.roots small.0 (λ k z l. (loaded.axioms.input.roots k z l).1) (short d loaded)
 
 -- ---- places
-module _ (d : Roots) where
+module _ (d : RootDatum) where
   -- P holds at no root before a place, nor at the root there
   pub none_more : (P : ℤ → Type 0) (p : ℕ) → p < 2 * length d.positive → ¬ P (number_at (length d.positive) p) → ((r : ℤ) → IsNumber d r → place (length d.positive) r < p → ¬ P r) →
       (r : ℤ) → IsNumber d r → place (length d.positive) r < p + 1 → ¬ P r

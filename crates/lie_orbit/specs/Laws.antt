@@ -5,12 +5,12 @@ use Rattle.std.specs.List.{Contains}
 use Rattle.lie_datum.specs.Vectors.{Vector, plus, entry}
 use Rattle.lie_datum.specs.declared.root_pair.Root.{Root}
 use Rattle.lie_datum.specs.RootDatum.{Base, vector, IsRoot}
-use Rattle.lie_datum.specs.RootList.{Roots, IsLoaded}
+use Rattle.lie_datum.specs.RootList.{RootDatum, IsLoaded}
 use Rattle.lie_orbit.specs.Lowering.{HasSmallPairings, Lowers}
 
 -- a weight lowers to one weight
 abbrev pub LowersOneWay : Type 0
-LowersOneWay = (d : Roots) (x y z : Vector) → Lowers d x y → Lowers d x z → y ≡ z
+LowersOneWay = (d : RootDatum) (x y z : Vector) → Lowers d x y → Lowers d x z → y ≡ z
 
 -- the sum of the vectors of these roots
 abbrev pub root_sum : Base → List Root → Vector
@@ -23,4 +23,4 @@ IsZero x = (k : ℕ) → entry x k ≡ pos 0
 
 -- a sum of roots that pairs with each coroot to -1, 0 or 1 is 0
 abbrev pub SmallSumsVanish : Type 0
-SmallSumsVanish = (d : Roots) (rs : List Root) → IsLoaded d → ((r : Root) → Contains rs r → IsRoot d.base r) → HasSmallPairings d (root_sum d.base rs) → IsZero (root_sum d.base rs)
+SmallSumsVanish = (d : RootDatum) (rs : List Root) → IsLoaded d → ((r : Root) → Contains rs r → IsRoot d.base r) → HasSmallPairings d (root_sum d.base rs) → IsZero (root_sum d.base rs)

@@ -10,15 +10,15 @@
 use Rattle.std.specs.Prelude.{◌<◌, ℤ, pos, neg_ℤ, ◌+ℤ◌, ◌*ℤ◌, ◌≤ℤ◌, ◌≤◌, length, unsigned_abs}
 use Rattle.lie_datum.specs.Vectors.{Vector, pairing, plus, times}
 use Rattle.lie_datum.specs.RootDatum.{vector, covector}
-use Rattle.lie_datum.specs.RootList.{Roots, root_of, IsNumber}
+use Rattle.lie_datum.specs.RootList.{RootDatum, root_of, IsNumber}
 use Rattle.lie_datum.specs.Numbers.{place}
 
 -- the pairing of a weight with the coroot of r
-abbrev pub coroot_pairing : Roots → Vector → ℤ → ℤ
+abbrev pub coroot_pairing : RootDatum → Vector → ℤ → ℤ
 coroot_pairing d x r = pairing x (covector d.base (root_of d r))
 
 -- x pairs with each coroot to -1, 0 or 1
-abbrev pub HasSmallPairings : Roots → Vector → Type 0
+abbrev pub HasSmallPairings : RootDatum → Vector → Type 0
 HasSmallPairings d x = (r : ℤ) → IsNumber d r → unsigned_abs (coroot_pairing d x r) ≤ 1
 
 -- c is the greatest number that is not above m / 2
@@ -26,24 +26,24 @@ abbrev pub IsHalf : ℤ → ℤ → Type 0
 IsHalf m c = ((pos 2 *ℤ c) ≤ℤ m) × (m ≤ℤ (pos 2 *ℤ c +ℤ pos 1))
 
 -- r pairs with x to 2 or more
-abbrev pub IsHighRoot : Roots → Vector → ℤ → Type 0
+abbrev pub IsHighRoot : RootDatum → Vector → ℤ → Type 0
 IsHighRoot d x r = pos 2 ≤ℤ coroot_pairing d x r
 
 -- no root does
-abbrev pub IsLow : Roots → Vector → Type 0
+abbrev pub IsLow : RootDatum → Vector → Type 0
 IsLow d x = (r : ℤ) → IsNumber d r → ¬ IsHighRoot d x r
 
 -- r is the first root in the full order that does
-pub record IsFirstHigh (d : Roots) (x : Vector) (r : ℤ) : Type 0 where
+pub record IsFirstHigh (d : RootDatum) (x : Vector) (r : ℤ) : Type 0 where
   pub number : IsNumber d r
   pub high : IsHighRoot d x r
   pub before : (s : ℤ) → IsNumber d s → place (length d.positive) s < place (length d.positive) r → ¬ IsHighRoot d x s
 
 -- x - c r
-abbrev pub less_root : Roots → Vector → ℤ → ℤ → Vector
+abbrev pub less_root : RootDatum → Vector → ℤ → ℤ → Vector
 less_root d x c r = plus x (times (neg_ℤ c) (vector d.base (root_of d r)))
 
 -- x lowers to y
-pub data Lowers (d : Roots) : Vector → Vector → Type 0 where
+pub data Lowers (d : RootDatum) : Vector → Vector → Type 0 where
   low : (x : Vector) → IsLow d x → Lowers d x x
   step : (x y : Vector) (r c : ℤ) → IsFirstHigh d x r → IsHalf (coroot_pairing d x r) c → Lowers d (less_root d x c r) y → Lowers d x y

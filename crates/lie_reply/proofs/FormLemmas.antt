@@ -9,7 +9,7 @@ use Rattle.lie_const.specs.CommutatorTerms.{IsPair}
 use Rattle.lie_const.specs.ConstantTables.{ConstantTable, LoadsConstants, value_of, terms_of}
 use Rattle.lie_const.proofs.SameTerms.{one_terms}
 use Rattle.lie_datum.specs.RootDatum.{vector}
-use Rattle.lie_datum.specs.RootList.{Roots, IsLoaded, IsNumber, root_of}
+use Rattle.lie_datum.specs.RootList.{RootDatum, IsLoaded, IsNumber, root_of}
 use Rattle.lie_datum.proofs.NumberLemmas.{within, some_within}
 use Rattle.lie_field.specs.Algebra.FieldTest.{is_lawful}
 use Rattle.lie_field.specs.Algebra.Laws.{mul_below}
@@ -39,7 +39,7 @@ use Rattle.lie_unip.proofs.JoinedLemmas.{collected_joined, collected_length, dro
 use Rattle.lie_reply.specs.Forms.{frame_of, moved_roots, moved_torus, is_nonzero, nonzero_letters, form_word, IsFormOf}
 
 -- ---- one letter more
-module _ (F : FiniteField) (D : Roots) where
+module _ (F : FiniteField) (D : RootDatum) where
   pub moved_roots-root : (t : List ℕ) (w : List Letter) (r : ℤ) (a : ℕ)
       → moved_roots F D t (w ++ X r a ∷ []) ≡ moved_roots F D t w ++ (nat_abs r, mul F.given (character F (moved_torus F t w) (vector D.base (root_of D r))) a) ∷ []
   moved_roots-root t [] r a = refl
@@ -71,7 +71,7 @@ module _ (F : FiniteField) where
   moved_torus-torus t (Ninv i ∷ w) u = moved_torus-torus t w u
 
 -- the number of a positive root is within the count
-pub positive_within : (D : Roots) (r : ℤ) → pos 0 <ℤ r → IsNumber D r → (1 ≤ nat_abs r) × (nat_abs r ≤ length D.positive)
+pub positive_within : (D : RootDatum) (r : ℤ) → pos 0 <ℤ r → IsNumber D r → (1 ≤ nat_abs r) × (nat_abs r ≤ length D.positive)
 positive_within D (pos zero) p n = absurd (omega (arith, ints, p))
 positive_within D (pos (suc k)) p n = (omega arith, within D.positive k n)
 positive_within D (negsuc k) p n = absurd (omega (arith, ints, p))
@@ -142,7 +142,7 @@ dropped_zeros F (x ∷ w) = by (nat_eq x.1 0) refl (dropped_zeros F w) where
   by false e rest = kept x rest
 
 -- the terms of a table can be collected
-pub collectable_terms : (D : Roots) → IsLoaded D → (c : ConstantTable) → LoadsConstants D (Ok c) → AreCollectable (length D.positive) (positive_terms c)
+pub collectable_terms : (D : RootDatum) → IsLoaded D → (c : ConstantTable) → LoadsConstants D (Ok c) → AreCollectable (length D.positive) (positive_terms c)
 collectable_terms D loaded c loads = subst (λ m. AreCollectable m (positive_terms c)) loads.0 (table_collectable D loaded c loads)
 
 module _ (f : FrameData) (lawful : IsLawfulFrame f) where
@@ -174,7 +174,7 @@ module _ (f : FrameData) (lawful : IsLawfulFrame f) where
       JoinedSpelled-flip f w (form_word u t) (JoinedSpelled-trans f w (root_letters roots ++ H t ∷ []) (form_word u t) whole both)
 
 -- two tables have the same terms of positive roots
-same_terms : (D : Roots) → IsLoaded D → (c e : ConstantTable) → LoadsConstants D (Ok c) → LoadsConstants D (Ok e) → (r s : ℕ) → 1 ≤ r → r < s → s ≤ length D.positive
+same_terms : (D : RootDatum) → IsLoaded D → (c e : ConstantTable) → LoadsConstants D (Ok c) → LoadsConstants D (Ok e) → (r s : ℕ) → 1 ≤ r → r < s → s ≤ length D.positive
     → positive_terms c r s ≡ positive_terms e r s
 same_terms D loaded c e x y zero s low below high = absurd (omega (arith, low))
 same_terms D loaded c e x y (suc r) zero low below high = absurd (omega (arith, below))
@@ -188,7 +188,7 @@ same_terms D loaded c e x y (suc r) (suc s) low below high =
     ap (map positive_term) (one_terms D loaded (value_of c) (value_of e) x.1 y.1 (pos (suc r)) (pos (suc s)) (terms_of c (pos (suc r)) (pos (suc s))) (terms_of e (pos (suc r)) (pos (suc s))) (x.2 (pos (suc r)) (pos (suc s)) pair) (y.2 (pos (suc r)) (pos (suc s)) pair))
 
 -- the list that a word is collected to by one table is its form by every table
-pub form_by_any : (F : FiniteField) (D : Roots) → IsLoaded D → (c e : ConstantTable) → LoadsConstants D (Ok c) → LoadsConstants D (Ok e) → (w : List Letter) (u t : List ℕ)
+pub form_by_any : (F : FiniteField) (D : RootDatum) → IsLoaded D → (c e : ConstantTable) → LoadsConstants D (Ok c) → LoadsConstants D (Ok e) → (w : List Letter) (u t : List ℕ)
     → IsWordOver (frame_of F D c) w → AllByRecursion IsBorelLetter w
     → IsCollected (field_ring F) (positive_terms c) nat_lt (length D.positive) (moved_roots F D (ones D.base.dim) w) u → t ≡ moved_torus F (ones D.base.dim) w
     → IsFormOf (frame_of F D e) w u t

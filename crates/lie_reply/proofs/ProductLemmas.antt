@@ -8,7 +8,7 @@ use Rattle.std.proofs.lemmas.Bool.{lt-ltb}
 use Rattle.std.proofs.lemmas.List.{take_more}
 use Rattle.lie_const.specs.ConstantTables.{ConstantTable, LoadsConstants}
 use Rattle.lie_datum.specs.RootDatum.{vector}
-use Rattle.lie_datum.specs.RootList.{Roots, IsLoaded, IsNumber, root_of}
+use Rattle.lie_datum.specs.RootList.{RootDatum, IsLoaded, IsNumber, root_of}
 use Rattle.lie_field.specs.Algebra.FieldTest.{is_lawful}
 use Rattle.lie_field.specs.Algebra.Laws.{mul_below}
 use Rattle.lie_field.specs.FieldRing.{field_ring, field_is_ring}
@@ -50,7 +50,7 @@ product_units f w u t over p =
     (subst (AreUnits f.field) (sym p.product) units.0, units.1 ∙ ap length (sym p.product))
 
 -- a root letter more
-pub product_root : (F : FiniteField) (D : Roots) → IsLoaded D → (c : ConstantTable) → LoadsConstants D (Ok c) → (w : List Letter) (u t z : List ℕ) (r : ℤ) (a : ℕ)
+pub product_root : (F : FiniteField) (D : RootDatum) → IsLoaded D → (c : ConstantTable) → LoadsConstants D (Ok c) → (w : List Letter) (u t z : List ℕ) (r : ℤ) (a : ℕ)
     → IsWordOver (frame_of F D c) w → AllByRecursion IsBorelLetter w → IsNumber D r → pos 0 <ℤ r → IsProductOf (frame_of F D c) w u t
     → AreEntries (field_ring F) (length D.positive) z
     → IsCollected (field_ring F) (positive_terms c) nat_lt (length D.positive) (full_word u ++ (nat_abs r, mul F.given (character F t (vector D.base (root_of D r))) a) ∷ []) z
@@ -74,7 +74,7 @@ product_root F D loaded c loads w u t z r a over borel number positive p entries
     }
 
 -- a torus letter more
-pub product_torus : (F : FiniteField) (D : Roots) (c : ConstantTable) (w : List Letter) (u t z s : List ℕ) → IsProductOf (frame_of F D c) w u t → z ≡ times_each F t s → IsProductOf (frame_of F D c) (w ++ H s ∷ []) u z
+pub product_torus : (F : FiniteField) (D : RootDatum) (c : ConstantTable) (w : List Letter) (u t z s : List ℕ) → IsProductOf (frame_of F D c) w u t → z ≡ times_each F t s → IsProductOf (frame_of F D c) (w ++ H s ∷ []) u z
 product_torus F D c w u t z s p is = record {
   entries = p.entries;
   collected = subst (λ (v : List (RingLetter ℕ)). IsCollected (field_ring F) (positive_terms c) nat_lt (length D.positive) v u) (sym (moved_roots-torus F D (ones D.base.dim) w s)) p.collected;
@@ -97,7 +97,7 @@ pub next_letter : (w : List Letter) (k : ℕ) (d : Letter) → k < length w → 
 next_letter w k d lt is = ap (λ x. take k w ++ x ∷ []) is ∙ sym (take_more w k d lt)
 
 -- the text of the product of a word is that of its form
-pub form_told : (F : FiniteField) (D : Roots) → IsLoaded D → (c : ConstantTable) → LoadsConstants D (Ok c) → (w : List Letter) (u t text : List ℕ)
+pub form_told : (F : FiniteField) (D : RootDatum) → IsLoaded D → (c : ConstantTable) → LoadsConstants D (Ok c) → (w : List Letter) (u t text : List ℕ)
     → IsWordOver (frame_of F D c) w → AllByRecursion IsBorelLetter w → IsProductOf (frame_of F D c) w u t → text ≡ form_text u t → FormTextOf F D w text
 form_told F D loaded c loads w u t text over borel p is = record {
   roots = u;
@@ -108,7 +108,7 @@ form_told F D loaded c loads w u t text over borel p is = record {
 }
 
 -- the same of an answer
-pub told_if : {E : Type 0} (F : FiniteField) (D : Roots) → IsLoaded D → (c : ConstantTable) → LoadsConstants D (Ok c) → (w : List Letter) (u t : List ℕ) (result : Result (List ℕ) E)
+pub told_if : {E : Type 0} (F : FiniteField) (D : RootDatum) → IsLoaded D → (c : ConstantTable) → LoadsConstants D (Ok c) → (w : List Letter) (u t : List ℕ) (result : Result (List ℕ) E)
     → IsWordOver (frame_of F D c) w → AllByRecursion IsBorelLetter w → IsProductOf (frame_of F D c) w u t → IfOk result (λ text. text ≡ form_text u t) → IfOk result (λ text. FormTextOf F D w text)
 told_if F D loaded c loads w u t (Ok text) over borel p h = form_told F D loaded c loads w u t text over borel p h
 told_if F D loaded c loads w u t (Err e) over borel p h = tt

@@ -10,12 +10,12 @@ use Rattle.std.proofs.lemmas.List.{append_cancel_right}
 use Rattle.std.proofs.lemmas.List.Elements.{All-from_recursion}
 use Rattle.std.proofs.lemmas.List.Splits.{slice_split_at, slice_split_none}
 use Rattle.lie_const.specs.ConstantTables.{ConstantTable}
-use Rattle.lie_datum.specs.RootList.{Roots, IsLoaded, IsNumber}
+use Rattle.lie_datum.specs.RootList.{RootDatum, IsLoaded, IsNumber}
 use Rattle.lie_datum.proofs.ListedLemmas.{listed_few}
 use Rattle.lie_datum.proofs.NumberLemmas.{within}
 use Rattle.lie_field.specs.FieldRing.{field_ring}
 use Rattle.lie_field.specs.FiniteField.{FiniteField}
-use Rattle.lie_field.specs.Faults.{IsSized}
+use Rattle.lie_field.specs.Faults.{IsWithinLimit}
 use Rattle.lie_field.specs.Quotient.{order}
 use Rattle.lie_letters.specs.Entries.{AreUnits, ones, times_each}
 use Rattle.lie_letters.specs.Frames.{FrameData, dim}
@@ -200,7 +200,7 @@ text_tells u v t s a b c d long e =
     )
 
 -- a datum has few positive roots
-few_roots : (D : Roots) → IsLoaded D → length D.positive ≤ 120
+few_roots : (D : RootDatum) → IsLoaded D → length D.positive ≤ 120
 few_roots D loaded =
     let a = loaded.axioms in
     listed_few D.base (record { input = a.input; twos = a.twos; signs = a.signs; zeros = a.zeros }) a.unmixed D.positive loaded.listed a.finite
@@ -209,7 +209,7 @@ small_units : (F : FiniteField) (t : List ℕ) → order F.given ≤ 256 → Are
 small_units F [] h u = tt
 small_units F (x ∷ t) h u = (omega (arith, h, u.0.1), small_units F t h u.1)
 
-small_number : (D : Roots) (k : ℕ) → length D.positive ≤ 120 → IsNumber D (pos k) → k < 2 ^ 64
+small_number : (D : RootDatum) (k : ℕ) → length D.positive ≤ 120 → IsNumber D (pos k) → k < 2 ^ 64
 small_number D zero few n = omega arith
 small_number D (suc k) few n = let l = within D.positive k n in omega (arith, l, few)
 
@@ -222,7 +222,7 @@ small_word f h few (x ∷ w) t over =
     (((small_number f.datum x.0 few over.0.0, omega (arith, h, over.0.1)), rest.0), rest.1, rest.2)
 
 -- the forms of two words with one text have one word
-pub replies_tell_words : (F : FiniteField) (D : Roots) (w v : List Letter) (text : List ℕ) → IsSized F.given → IsLoaded D → FormTextOf F D w text → FormTextOf F D v text → JoinedWords F D w v
+pub replies_tell_words : (F : FiniteField) (D : RootDatum) (w v : List Letter) (text : List ℕ) → IsWithinLimit F.given → IsLoaded D → FormTextOf F D w text → FormTextOf F D v text → JoinedWords F D w v
 replies_tell_words F D w v text sized loaded x y c loads =
     let f = frame_of F D c in
     let few = few_roots D loaded in
@@ -235,7 +235,7 @@ replies_tell_words F D w v text sized loaded x y c loads =
     JoinedSpelled-trans f w (form_word x.roots x.torus) v (JoinedSpelled-flip f (form_word x.roots x.torus) w a) (subst (λ z. JoinedSpelled f z v) (sym word) b)
 
 -- a word has one text alone
-pub one_text : (F : FiniteField) (D : Roots) (w : List Letter) (a b : List ℕ) → FormTextOf F D w a → FormTextOf F D w b → a ≡ b
+pub one_text : (F : FiniteField) (D : RootDatum) (w : List Letter) (a b : List ℕ) → FormTextOf F D w a → FormTextOf F D w b → a ≡ b
 one_text F D w a b x y =
     let c = x.loads.0 in
     let p = x.form c x.loads.1 in
@@ -245,7 +245,7 @@ one_text F D w a b x y =
 
 -- ---- words of torus letters alone
 
-moved_none : (F : FiniteField) (D : Roots) (t : List ℕ) (w : List Letter) → AllByRecursion IsTorusLetter w → moved_roots F D t w ≡ []
+moved_none : (F : FiniteField) (D : RootDatum) (t : List ℕ) (w : List Letter) → AllByRecursion IsTorusLetter w → moved_roots F D t w ≡ []
 moved_none F D t [] h = refl
 moved_none F D t (X r a ∷ w) h = absurd h.0
 moved_none F D t (H s ∷ w) h = moved_none F D (times_each F t s) w h.1
@@ -264,17 +264,17 @@ zeros_from s k zero = refl
 zeros_from s k (suc n) = zeros_from (s + 1) (k + 1) n
 
 -- their forms have no root letters
-torus_form : (F : FiniteField) (D : Roots) (c : ConstantTable) (w : List Letter) (u t : List ℕ) → AllByRecursion IsTorusLetter w → IsFormOf (frame_of F D c) w u t → nonzero_letters u ≡ []
+torus_form : (F : FiniteField) (D : RootDatum) (c : ConstantTable) (w : List Letter) (u t : List ℕ) → AllByRecursion IsTorusLetter w → IsFormOf (frame_of F D c) w u t → nonzero_letters u ≡ []
 torus_form F D c w u t torus form =
     let none = ends_empty F _ form.collected.ends (moved_none F D (ones D.base.dim) w torus) in
     ap nonzero_letters (form.collected.list ∙ ap (elements (field_ring F) (length D.positive)) none) ∙ zeros_from 1 1 (length D.positive)
 
-torus_joined : (F : FiniteField) (D : Roots) (c : ConstantTable) (w : List Letter) (u t : List ℕ) → AllByRecursion IsTorusLetter w → IsFormOf (frame_of F D c) w u t → JoinedSpelled (frame_of F D c) (H t ∷ []) w
+torus_joined : (F : FiniteField) (D : RootDatum) (c : ConstantTable) (w : List Letter) (u t : List ℕ) → AllByRecursion IsTorusLetter w → IsFormOf (frame_of F D c) w u t → JoinedSpelled (frame_of F D c) (H t ∷ []) w
 torus_joined F D c w u t torus form =
     subst (λ (z : List (RingLetter ℕ)). JoinedSpelled (frame_of F D c) (root_letters z ++ H t ∷ []) w) (torus_form F D c w u t torus form) form.joined
 
 -- two words of torus letters have the same reply exactly if a chain joins them
-pub replies_decide_torus_words : (F : FiniteField) (D : Roots) (w v : List Letter) (a b : List ℕ) → IsSized F.given → IsLoaded D → AllByRecursion IsTorusLetter w → AllByRecursion IsTorusLetter v
+pub replies_decide_torus_words : (F : FiniteField) (D : RootDatum) (w v : List Letter) (a b : List ℕ) → IsWithinLimit F.given → IsLoaded D → AllByRecursion IsTorusLetter w → AllByRecursion IsTorusLetter v
     → FormTextOf F D w a → FormTextOf F D v b → ((a ≡ b) ↔ JoinedWords F D w v)
 replies_decide_torus_words F D w v a b sized loaded tw tv x y =
     let c = x.loads.0 in

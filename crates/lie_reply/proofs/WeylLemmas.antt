@@ -9,7 +9,7 @@ use Rattle.std.proofs.lemmas.List.Elements.{All-map}
 use Rattle.std.proofs.lemmas.Cmp.{nat_list_cmp_total}
 use Rattle.std.proofs.lemmas.Map.Lookups.{exact_bytes}
 use Rattle.lie_datum.specs.RootDatum.{IsSimpleIndex, rank}
-use Rattle.lie_datum.specs.RootList.{Roots, IsLoaded}
+use Rattle.lie_datum.specs.RootList.{RootDatum, IsLoaded}
 use Rattle.lie_script.specs.Numbers.{is_within}
 use Rattle.lie_weyl.specs.WeylElement.{AreLetters}
 use Rattle.lie_weyl.proofs.ElementLemmas.{one_list}
@@ -26,11 +26,11 @@ wider (pos i) l low h = grind (arith, low, h)
 wider (negsuc i) l low h = absurd cc
 
 -- indices are at most 8
-pub small_indices : (D : Roots) (indices : List ℤ) → rank D.base ≤ 8 → AreIndices D indices → All (λ i. is_within (pos 1) (pos 8) i ≡ true) indices
+pub small_indices : (D : RootDatum) (indices : List ℤ) → rank D.base ≤ 8 → AreIndices D indices → All (λ i. is_within (pos 1) (pos 8) i ≡ true) indices
 small_indices D indices low within k d lt = wider (get_or indices k d) (rank D.base) low (within k d lt)
 
 -- the letters of indices are letters of words
-pub letters_from : (D : Roots) (indices : List ℤ) (letters : List ℕ) → AreIndices D indices → letters ≡ map nat_abs indices → AreLetters D.base letters
+pub letters_from : (D : RootDatum) (indices : List ℤ) (letters : List ℕ) → AreIndices D indices → letters ≡ map nat_abs indices → AreLetters D.base letters
 letters_from D indices letters within is =
     subst (AreLetters D.base) (sym is) (All-map (IsSimpleIndex D.base) nat_abs indices (λ k d lt. index_letter (get_or indices k d) (rank D.base) (within k d lt)))
 
@@ -44,7 +44,7 @@ two_least w v p q = by (slice_cmp nat_cmp w v) refl
     by Greater e = absurd (p e)
 
 -- an element has one text
-one_element : (D : Roots) (images : List ℤ) (a b : List ℕ) → TellsElement D images a → TellsElement D images b → a ≡ b
+one_element : (D : RootDatum) (images : List ℤ) (a b : List ℕ) → TellsElement D images a → TellsElement D images b → a ≡ b
 one_element D images a b x y =
     let n : x.0 ≡ y.0 = x.2.counted x.1 x.3.spells ∙ sym (y.2.counted x.1 x.3.spells) in
     let long : length y.1 ≡ length x.1 = y.3.shortest ∙ sym (x.2.counted y.1 y.3.spells) ∙ x.2.counted x.1 x.3.spells ∙ sym x.3.shortest in
@@ -52,7 +52,7 @@ one_element D images a b x y =
     x.4 ∙ ap₂ (λ (k : ℕ) (w : List ℕ). weyl_text k w images) n word ∙ sym y.4
 
 -- a product has one text
-pub one_weyl_text : (D : Roots) (indices : List ℤ) (a b : List ℕ) → IsLoaded D → WeylTextOf D indices a → WeylTextOf D indices b → a ≡ b
+pub one_weyl_text : (D : RootDatum) (indices : List ℤ) (a b : List ℕ) → IsLoaded D → WeylTextOf D indices a → WeylTextOf D indices b → a ≡ b
 one_weyl_text D indices a b loaded x y =
     let same = one_list D loaded (map nat_abs indices) x.0 y.0 x.1 y.1 in
     one_element D x.0 a b x.2 (subst (λ (z : List ℤ). TellsElement D z b) (sym same) y.2)

@@ -10,7 +10,7 @@
 use Rattle.std.specs.Prelude.{◌≡◌, ℕ, nat_abs, nat_eq, nat_lt, not, Bool, List, [], ◌∷◌, ◌++◌, length, filter}
 use Rattle.lie_const.specs.ConstantTables.{ConstantTable}
 use Rattle.lie_datum.specs.RootDatum.{vector}
-use Rattle.lie_datum.specs.RootList.{Roots, root_of}
+use Rattle.lie_datum.specs.RootList.{RootDatum, root_of}
 use Rattle.lie_field.specs.FieldRing.{field_ring}
 use Rattle.lie_field.specs.FiniteField.{FiniteField}
 use Rattle.lie_field.specs.Quotient.{mul}
@@ -24,11 +24,11 @@ use Rattle.lie_letters.specs.declared.letter.Letter.TheVariants.{X, H, N, Ninv}
 use Rattle.lie_unip.specs.Collection.{IsCollected, AreEntries}
 
 -- what the words of a group speak of
-abbrev pub frame_of : FiniteField → Roots → ConstantTable → FrameData
+abbrev pub frame_of : FiniteField → RootDatum → ConstantTable → FrameData
 frame_of F D c = record { field = F; datum = D; constants = c }
 
 -- the root letters, with the torus letters moved behind them; Weyl letters are passed over
-abbrev pub moved_roots : FiniteField → Roots → List ℕ → List Letter → List (RingLetter ℕ)
+abbrev pub moved_roots : FiniteField → RootDatum → List ℕ → List Letter → List (RingLetter ℕ)
 moved_roots F D t [] = []
 moved_roots F D t (X r a ∷ w) = (nat_abs r, mul F.given (character F t (vector D.base (root_of D r))) a) ∷ moved_roots F D t w
 moved_roots F D t (H s ∷ w) = moved_roots F D (times_each F t s) w

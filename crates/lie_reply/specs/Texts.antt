@@ -13,7 +13,7 @@ use Rattle.std.specs.List.{join_with_byte}
 use Rattle.lie_const.specs.declared.term.Term.{Term}
 use Rattle.lie_datum.specs.RootDatum.{Base, rank, vector, covector}
 use Rattle.lie_datum.specs.declared.root_pair.Root.{Root}
-use Rattle.lie_datum.specs.RootList.{Roots}
+use Rattle.lie_datum.specs.RootList.{RootDatum}
 use Rattle.lie_field.specs.FiniteField.{FiniteField}
 use Rattle.lie_field.specs.Quotient.{order}
 use Rattle.lie_letters.specs.RingLetters.{RingLetter}
@@ -25,7 +25,7 @@ abbrev pub dimension_text : Base → List ℕ
 dimension_text b = if nat_eq (rank b) 0 then decimal b.dim else codes "-"
 
 -- the reply to `load`
-abbrev pub loaded_text : FiniteField → Roots → List ℕ
+abbrev pub loaded_text : FiniteField → RootDatum → List ℕ
 loaded_text F D =
     codes "loaded " ++ decimal (order F.given) ++ codes " " ++ decimal D.base.dim ++ codes " " ++ decimal (2 * length D.positive)
     ++ codes " " ++ dimension_text D.base ++ codes "\n"
@@ -60,7 +60,7 @@ root_texts b k [] = []
 root_texts b k (r ∷ rs) = root_text b k r ++ root_texts b (k + 1) rs
 
 -- the reply to `roots`
-abbrev pub roots_text : Roots → List ℕ
+abbrev pub roots_text : RootDatum → List ℕ
 roots_text D = codes "roots " ++ decimal (length D.positive) ++ codes "\n" ++ root_texts D.base 1 D.positive
 
 -- a term: its exponents, the number of its root, and its coefficient

@@ -3,7 +3,7 @@ use Rattle.std.proofs.Common.{◌≡◌, ℕ, zero, suc, ◌+◌, ◌<◌, ◌�
 use Rattle.std.proofs.lemmas.Bool.{false≢true}
 use Rattle.std.proofs.lemmas.Int.{ints}
 use Rattle.std.specs.List.{AllByRecursion}
-use Rattle.lie_datum.specs.RootList.{Roots, IsLoaded, IsNumber}
+use Rattle.lie_datum.specs.RootList.{RootDatum, IsLoaded, IsNumber}
 use Rattle.lie_datum.specs.RootDatum.{rank}
 use Rattle.lie_datum.proofs.SignedRoots.{opposite_number}
 use Rattle.lie_letters.proofs.NameLemmas.{index_of, number_of_index}
@@ -104,18 +104,18 @@ unfolding weyl_letter
 weyl_letter-all P sizes column bytes h = weyl_by-all P sizes column bytes (before_last 39 bytes) h
 
 -- numbers up to m in absolute value are those of roots
-number-within : (D : Roots) (k : ℕ) → 1 ≤ k → k ≤ length D.positive → IsNumber D (pos k)
+number-within : (D : RootDatum) (k : ℕ) → 1 ≤ k → k ≤ length D.positive → IsNumber D (pos k)
 number-within D zero low high = absurd (omega (arith, low))
 number-within D (suc k) low high = some_within D.positive k (omega (arith, high))
 
-signed-within : (D : Roots) (number : List ℕ) (k : ℕ) → 1 ≤ k → k ≤ length D.positive → IsNumber D (signed number k)
+signed-within : (D : RootDatum) (number : List ℕ) (k : ℕ) → 1 ≤ k → k ≤ length D.positive → IsNumber D (signed number k)
 signed-within D number k low high = by (begins_with 45 number) where
   by : (t : Bool) → IsNumber D (cond t (neg_ℤ (pos k)) (pos k))
   by true = (opposite_number D (pos k) (number-within D k low high)).0
   by false = number-within D k low high
 
 -- indices up to l are those of simple roots
-index-within : (D : Roots) → IsLoaded D → (i : ℕ) → 1 ≤ i → i ≤ rank D.base → IsIndex D i
+index-within : (D : RootDatum) → IsLoaded D → (i : ℕ) → 1 ≤ i → i ≤ rank D.base → IsIndex D i
 index-within D loaded zero low high = absurd (omega (arith, low))
 index-within D loaded (suc k) low high = let i = index_of D loaded k (omega (arith, high)) in subst (λ n. IsIndex D (suc n)) i.1 (number_of_index D i.0)
 

@@ -4,7 +4,7 @@ use Rattle.std.specs.Prelude.{◌≡◌, ◌||◌, Bool, true, false, length, Op
 use Rattle.lie_field.specs.FiniteField.{FiniteField}
 use Rattle.lie_field.specs.Quotient.{order}
 use Rattle.lie_datum.specs.RootDatum.{rank}
-use Rattle.lie_datum.specs.RootList.{Roots}
+use Rattle.lie_datum.specs.RootList.{RootDatum}
 use Rattle.lie_script.specs.Texts.{line_fault}
 use Rattle.lie_script.specs.declared.faults.Fault.{Fault}
 use Rattle.lie_script.specs.declared.faults.LineFault.{LineFault}
@@ -18,7 +18,7 @@ abbrev pub HasField : Sizes → FiniteField → Type 0
 HasField sizes F = order F.given ≡ sizes.q
 
 -- d, l and m are the dimension, the rank and the number of positive roots of the datum
-pub record HasDatum (sizes : Sizes) (D : Roots) : Type 0 where
+pub record HasDatum (sizes : Sizes) (D : RootDatum) : Type 0 where
   pub d_is : D.base.dim ≡ sizes.d
   pub l_is : rank D.base ≡ sizes.l
   pub m_is : length D.positive ≡ sizes.m
@@ -29,7 +29,7 @@ awaits_both wants.Load = true
 awaits_both _ = false
 
 -- the field and the datum that are handed in belong to the sizes, and both are there where letters may have to be made
-pub record IsSetting (awaited : Wants) (sizes : Sizes) (field : Option FiniteField) (datum : Option Roots) : Type 0 where
+pub record IsSetting (awaited : Wants) (sizes : Sizes) (field : Option FiniteField) (datum : Option RootDatum) : Type 0 where
   pub field_is : IfSome field (HasField sizes)
   pub datum_is : IfSome datum (HasDatum sizes)
   pub both : (sizes.loaded || awaits_both awaited) ≡ true → IsSome field × IsSome datum

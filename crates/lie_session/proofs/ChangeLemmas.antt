@@ -6,9 +6,9 @@ use Rattle.std.specs.Option.{IfSome}
 use Rattle.lie_audit.specs.WordMatrix.{word_matrix}
 use Rattle.lie_const.specs.Modules.{Module, dimension}
 use Rattle.lie_const.specs.Signs.{SignTable}
-use Rattle.lie_datum.specs.RootList.{Roots, IsLoaded}
+use Rattle.lie_datum.specs.RootList.{RootDatum, IsLoaded}
 use Rattle.lie_field.specs.FiniteField.{FiniteField}
-use Rattle.lie_field.specs.Faults.{IsSized}
+use Rattle.lie_field.specs.Faults.{IsWithinLimit}
 use Rattle.lie_script.specs.Reading.{reads}
 use Rattle.lie_script.specs.Texts.{line_fault}
 use Rattle.lie_script.specs.declared.faults.Fault.{Fault}
@@ -32,9 +32,9 @@ pub data Moved (s : State) : State → Type 0 where
   stays : Moved s s
   counts : Moved s (record s { refusals = next_count s.refusals })
   ends : Moved s (record s { ended = true })
-  keeps_field : (F : FiniteField) → IsSized F.given → Moved s (record s { field = Some F })
+  keeps_field : (F : FiniteField) → IsWithinLimit F.given → Moved s (record s { field = Some F })
   reads_datum : (lines : DatumLines) → Moved s (record s { datum = datum.Reading lines })
-  keeps_datum : (D : Roots) → IsLoaded D → Moved s (record s { datum = datum.Whole D })
+  keeps_datum : (D : RootDatum) → IsLoaded D → Moved s (record s { datum = datum.Whole D })
   loads : (t : SignTable) → Moved s (record s { loaded = true; signs = Some t })
   names : (name : List ℕ) (v : Module) → Moved s (record s { modules = s.modules ++ (name, v) ∷ [] })
 
@@ -64,7 +64,7 @@ answers_steps s after text reply next ended refusals moved h = (
 )
 
 -- a command with a field and a datum
-pub with_both : {P : Type 0} (Q : FiniteField → Roots → Type 0) (field : Option FiniteField) (d : Option Roots) → ((F : FiniteField) (D : Roots) → Q F D → P)
+pub with_both : {P : Type 0} (Q : FiniteField → RootDatum → Type 0) (field : Option FiniteField) (d : Option RootDatum) → ((F : FiniteField) (D : RootDatum) → Q F D → P)
     → MatchOption field ⊥ (λ F. MatchOption d ⊥ (λ D. Q F D)) → P
 with_both Q None d go h = absurd h
 with_both Q (Some F) None go h = absurd h
@@ -84,15 +84,15 @@ datum_steps : (s : State) (n : ℕ) (lines : DatumLines) (reply : Reply) (next :
 datum_steps s n lines reply next (inl h) = accepts_steps s (record s { datum = datum.Whole h.0 }) reply next refl refl (keeps_datum h.0 h.1.1) h.2
 datum_steps s n lines reply next (inr h) = refuses_steps s (datum_refusal n lines.rank h.0) reply next h.3
 
-braids_steps : (s : State) (n : ℕ) (F : FiniteField) (D : Roots) (signs : SignTable) (reply : Reply) (next : State) → LoadsBraids s n F D signs reply next → Steps s reply next
+braids_steps : (s : State) (n : ℕ) (F : FiniteField) (D : RootDatum) (signs : SignTable) (reply : Reply) (next : State) → LoadsBraids s n F D signs reply next → Steps s reply next
 braids_steps s n F D signs reply next (inl h) = answers_steps s (record s { loaded = true; signs = Some signs }) (loaded_text F D) reply next refl refl (loads signs) h.1
 braids_steps s n F D signs reply next (inr h) = refuses_steps s (braid_refusal n h.0 h.1 h.2) reply next h.4
 
-signs_steps : (s : State) (n : ℕ) (F : FiniteField) (D : Roots) (reply : Reply) (next : State) → LoadsSigns s n F D reply next → Steps s reply next
+signs_steps : (s : State) (n : ℕ) (F : FiniteField) (D : RootDatum) (reply : Reply) (next : State) → LoadsSigns s n F D reply next → Steps s reply next
 signs_steps s n F D reply next (inl h) = braids_steps s n F D h.1 reply next h.5
 signs_steps s n F D reply next (inr h) = refuses_steps s (signs_refusal n h.1) reply next h.5
 
-group_steps : (s : State) (n : ℕ) (F : FiniteField) (D : Roots) (reply : Reply) (next : State) → LoadsGroup s n F D reply next → Steps s reply next
+group_steps : (s : State) (n : ℕ) (F : FiniteField) (D : RootDatum) (reply : Reply) (next : State) → LoadsGroup s n F D reply next → Steps s reply next
 group_steps s n F D reply next (inl h) = signs_steps s n F D reply next h.2
 group_steps s n F D reply next (inr h) = refuses_steps s (constants_refusal n h.0) reply next h.3
 
@@ -109,7 +109,7 @@ with_some Q (Some a) go h = go a h
 named_steps : (s : State) (name : List ℕ) (v : Module) (reply : Reply) (next : State) → NamesModule s name v reply next → Steps s reply next
 named_steps s name v reply next h = answers_steps s (record s { modules = s.modules ++ (name, v) ∷ [] }) (module_text name (dimension v)) reply next refl refl (names name v) h
 
-orbit_steps : (s : State) (n : ℕ) (D : Roots) (t : SignTable) (name : List ℕ) (w : List ℤ) (reply : Reply) (next : State) → NamesOrbit s n D t name w reply next → Steps s reply next
+orbit_steps : (s : State) (n : ℕ) (D : RootDatum) (t : SignTable) (name : List ℕ) (w : List ℤ) (reply : Reply) (next : State) → NamesOrbit s n D t name w reply next → Steps s reply next
 orbit_steps s n D t name w reply next (inl h) = named_steps s name h.0 reply next h.2
 orbit_steps s n D t name w reply next (inr h) = refuses_steps s (orbit_refusal n h.0) reply next h.3
 
@@ -160,7 +160,7 @@ changes_if s n bytes next (Err e) h = tt
 
 -- the field is within the limits, and the datum meets the axioms
 pub record IsSoundState (s : State) : Type 0 where
-  pub sized : IfSome s.field (λ F. IsSized F.given)
+  pub sized : IfSome s.field (λ F. IsWithinLimit F.given)
   pub loaded : IfSome (whole s.datum) IsLoaded
 
 sound_moved : (s next : State) → IsSoundState s → Moved s next → IsSoundState next

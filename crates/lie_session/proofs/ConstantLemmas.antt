@@ -5,7 +5,7 @@ use Rattle.lie_const.specs.ConstantTables.{ConstantTable, LoadsConstants}
 use Rattle.lie_const.specs.declared.faults.ConstFault.{ConstFault}
 use Rattle.lie_const.specs.declared.faults.ConstFault.TheVariants.{NoMemory, Constant}
 use Rattle.lie_const.proofs.OneAnswer.{loads_one_way}
-use Rattle.lie_datum.specs.RootList.{Roots, IsLoaded}
+use Rattle.lie_datum.specs.RootList.{RootDatum, IsLoaded}
 use Rattle.lie_script.specs.Texts.{refusal}
 use Rattle.lie_session.specs.Faults.{constants_refusal}
 use Rattle.lie_session.specs.Replies.{Refuses}
@@ -29,9 +29,9 @@ err_named : (why : ConstFault) → why ≢ NoMemory → ◌≡◌ {A = Answer} (
 err_named why named e = let is : why ≡ NoMemory = cc in named is
 
 -- the constants of a datum load, or do not
-pub no_failure : (D : Roots) → IsLoaded D → (c : ConstantTable) (why : ConstFault) → LoadsConstants D (Ok c) → why ≢ NoMemory → LoadsConstants D (Err why) → ⊥
+pub no_failure : (D : RootDatum) → IsLoaded D → (c : ConstantTable) (why : ConstFault) → LoadsConstants D (Ok c) → why ≢ NoMemory → LoadsConstants D (Err why) → ⊥
 no_failure D loaded c why ok named failure = loads_one_way D (Ok c) (Err why) loaded ok failure (ok_named c) (err_named why named)
 
 -- a datum has one first failure
-pub one_failure : (D : Roots) → IsLoaded D → (why why' : ConstFault) → why ≢ NoMemory → why' ≢ NoMemory → LoadsConstants D (Err why) → LoadsConstants D (Err why') → why ≡ why'
+pub one_failure : (D : RootDatum) → IsLoaded D → (why why' : ConstFault) → why ≢ NoMemory → why' ≢ NoMemory → LoadsConstants D (Err why) → LoadsConstants D (Err why') → why ≡ why'
 one_failure D loaded why why' named named' h h' = loads_one_way D (Err why) (Err why') loaded h h' (err_named why named) (err_named why' named')

@@ -18,9 +18,9 @@ use Rattle.lie_const.specs.Adjoint.{IsAdjointOf}
 use Rattle.lie_const.specs.ConstantTables.{ConstantTable, LoadsConstants}
 use Rattle.lie_const.specs.Modules.{Module, dimension}
 use Rattle.lie_const.specs.Signs.{SignTable}
-use Rattle.lie_datum.specs.RootList.{Roots, IsLoaded}
+use Rattle.lie_datum.specs.RootList.{RootDatum, IsLoaded}
 use Rattle.lie_field.specs.FiniteField.{FiniteField}
-use Rattle.lie_field.specs.Faults.{IsSized}
+use Rattle.lie_field.specs.Faults.{IsWithinLimit}
 use Rattle.lie_letters.specs.declared.letter.Letter.{Letter}
 use Rattle.lie_reply.specs.Modules.{matrix_text}
 use Rattle.lie_script.specs.Accepted.{IsNewName, Fits}
@@ -56,13 +56,13 @@ pub record HasLoaded (s : State) : Type 0 where
 -- ---- what is awaited, by what is loaded
 
 -- a datum that is there is whole
-whole_is : (stage : DatumStage) (D : Roots) → whole stage ≡ Some D → stage ≡ datum.Whole D
+whole_is : (stage : DatumStage) (D : RootDatum) → whole stage ≡ Some D → stage ≡ datum.Whole D
 whole_is datum.Missing D is = absurd cc
 whole_is (datum.Reading lines) D is = absurd cc
 whole_is (datum.Whole D') D is = let same : D' ≡ D = cc in ap datum.Whole same
 
 -- with a field and a datum, a loaded group awaits commands
-late_wants : (field : Option FiniteField) (stage : DatumStage) (F : FiniteField) (D : Roots) → field ≡ Some F → whole stage ≡ Some D → wants_from field stage true ≡ wants.Command
+late_wants : (field : Option FiniteField) (stage : DatumStage) (F : FiniteField) (D : RootDatum) → field ≡ Some F → whole stage ≡ Some D → wants_from field stage true ≡ wants.Command
 late_wants field stage F D field_is datum_is = ap (λ o. wants_from o stage true) field_is ∙ ap (λ z. wants_from (Some F) z true) (whole_is stage D datum_is)
 
 -- a line of a datum is no command
@@ -99,7 +99,7 @@ held Q None h = absurd h
 held Q (Some a) h = (a, refl, h)
 
 -- what a command does with the field and the datum of the group
-with_group : (s : State) (P : FiniteField → Roots → Type 0) (g : HasGroup s) → WithBoth s P → P g.field g.datum
+with_group : (s : State) (P : FiniteField → RootDatum → Type 0) (g : HasGroup s) → WithBoth s P → P g.field g.datum
 with_group s P g h =
     MatchOption-at_some ⊥ (λ D. P g.field D) g.datum g.datum_is
     (MatchOption-at_some ⊥ (λ F. MatchOption (whole s.datum) ⊥ (λ D. P F D)) g.field g.field_is h)
@@ -216,7 +216,7 @@ module _ (s : State) (n : ℕ) (reply : Reply) (next : State) (before : HasLoade
   joined_leaves false lines unloaded h = early (record s { datum = datum.Reading lines }) unloaded refl refl h.1
 
   -- `load` brings a group
-  module _ (F : FiniteField) (D : Roots) (unloaded : s.loaded ≡ false) (field_is : s.field ≡ Some F) (datum_is : whole s.datum ≡ Some D) (sized : IsSized F.given) (axioms : IsLoaded D) where
+  module _ (F : FiniteField) (D : RootDatum) (unloaded : s.loaded ≡ false) (field_is : s.field ≡ Some F) (datum_is : whole s.datum ≡ Some D) (sized : IsWithinLimit F.given) (axioms : IsLoaded D) where
     braids_bring : (c : (c : ConstantTable) × LoadsConstants D (Ok c)) (v : Module) (t : SignTable) → IsAdjointOf D v → AreTestedSigns D v t → LoadsBraids s n F D t reply next → HasLoaded next
     braids_bring c v t adjoint tested (inl h) =
         subst HasLoaded (sym h.1.1) (record {
@@ -254,7 +254,7 @@ module _ (s : State) (n : ℕ) (reply : Reply) (next : State) (before : HasLoade
       let with_field = held (λ F. MatchOption (whole s.datum) ⊥ (λ D. LoadsGroup s n F D reply next)) s.field h in
       let with_datum = held (λ D. LoadsGroup s n with_field.0 D reply next) (whole s.datum) with_field.2 in
       group_brings with_field.0 with_datum.0 unloaded with_field.1 with_datum.1
-      (subst (λ o. IfSome o (λ F. IsSized F.given)) with_field.1 sound.sized) (subst (λ o. IfSome o IsLoaded) with_datum.1 sound.loaded) with_datum.2
+      (subst (λ o. IfSome o (λ F. IsWithinLimit F.given)) with_field.1 sound.sized) (subst (λ o. IfSome o IsLoaded) with_datum.1 sound.loaded) with_datum.2
 
   -- a module that is built gets a name
   named_leaves : (name : List ℕ) (v : Module) (g : HasGroup s) → s.loaded ≡ true → IsNewName (listed_of s.modules) name → IsBuilt g.datum g.signs v

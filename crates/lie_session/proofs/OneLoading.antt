@@ -8,7 +8,7 @@ use Rattle.lie_audit.proofs.OneAdjointLemmas.{one_adjoint, one_sign_table}
 use Rattle.lie_const.specs.Adjoint.{IsAdjointOf}
 use Rattle.lie_const.specs.Modules.{Module}
 use Rattle.lie_const.specs.Signs.{SignTable, eta_of}
-use Rattle.lie_datum.specs.RootList.{Roots, IsLoaded}
+use Rattle.lie_datum.specs.RootList.{RootDatum, IsLoaded}
 use Rattle.lie_field.specs.FiniteField.{FiniteField}
 use Rattle.lie_weight.specs.declared.faults.ModuleFault.{ModuleFault}
 use Rattle.lie_weight.specs.declared.faults.ModuleFault.TheVariants as orbit_fault
@@ -32,19 +32,19 @@ pub refused_alike : (s : State) (text text' : List ℕ) (r r' : Reply) (t t' : S
 refused_alike s text text' r r' t t' same h h' = both h (subst (λ z. Refuses s z r' t') (sym same) h')
 
 -- where the signs are as they should be none fails
-no_bad_sign : (D : Roots) (v : Module) (signs : SignTable) (why : SignFault) → AreTestedSigns D v signs → why ≢ sign_fault.NoMemory → IsSignFault D v why → ⊥
+no_bad_sign : (D : RootDatum) (v : Module) (signs : SignTable) (why : SignFault) → AreTestedSigns D v signs → why ≢ sign_fault.NoMemory → IsSignFault D v why → ⊥
 no_bad_sign D v signs sign_fault.NoMemory good named fault = named refl
 no_bad_sign D v signs (sign_fault.Sign i s c) good named fault = one_sign.good D v signs i s c good fault
 
 -- the first sign that fails is one
-one_bad_sign : (D : Roots) (v : Module) (why why' : SignFault) → why ≢ sign_fault.NoMemory → why' ≢ sign_fault.NoMemory → IsSignFault D v why → IsSignFault D v why' → why ≡ why'
+one_bad_sign : (D : RootDatum) (v : Module) (why why' : SignFault) → why ≢ sign_fault.NoMemory → why' ≢ sign_fault.NoMemory → IsSignFault D v why → IsSignFault D v why' → why ≡ why'
 one_bad_sign D v sign_fault.NoMemory why' named named' fault fault' = absurd (named refl)
 one_bad_sign D v (sign_fault.Sign i s c) sign_fault.NoMemory named named' fault fault' = absurd (named' refl)
 one_bad_sign D v (sign_fault.Sign i s c) (sign_fault.Sign j r e) named named' fault fault' =
     let h = one_sign.first D v i j s r c e fault fault' in
     ap (λ x. sign_fault.Sign x s c) h.0 ∙ ap (λ x. sign_fault.Sign j x c) h.1 ∙ ap (λ x. sign_fault.Sign j r x) h.2
 
-module _ (s : State) (n : ℕ) (F : FiniteField) (D : Roots) (r r' : Reply) (t t' : State) (loaded : IsLoaded D) where
+module _ (s : State) (n : ℕ) (F : FiniteField) (D : RootDatum) (r r' : Reply) (t t' : State) (loaded : IsLoaded D) where
   -- braid values are tested in one way
   one_braiding : (signs : SignTable) → LoadsBraids s n F D signs r t → LoadsBraids s n F D signs r' t' → Same r r' t t'
   one_braiding signs (inl h) (inl h') = both h.1 h'.1
@@ -79,7 +79,7 @@ named_alike : (s : State) (name : List ℕ) (v v' : Module) (r r' : Reply) (t t'
 named_alike s name v v' r r' t t' same h h' = both h (subst (λ w. NamesModule s name w r' t') (sym same) h')
 
 -- the adjoint module is named in one way
-pub one_adjoint_name : (s : State) (D : Roots) (name : List ℕ) (r r' : Reply) (t t' : State) → IsLoaded D → NamesAdjoint s D name r t → NamesAdjoint s D name r' t' → Same r r' t t'
+pub one_adjoint_name : (s : State) (D : RootDatum) (name : List ℕ) (r r' : Reply) (t t' : State) → IsLoaded D → NamesAdjoint s D name r t → NamesAdjoint s D name r' t' → Same r r' t t'
 one_adjoint_name s D name r r' t t' loaded h h' = named_alike s name h.0 h'.0 r r' t t' (one_adjoint D loaded h.0 h'.0 h.1 h'.1) h.2 h'.2
 
 -- what making an orbit's module answers
@@ -102,7 +102,7 @@ ok_err : (v : Module) (why : ModuleFault) → ◌≡◌ {A = Answer} (Ok v) (Err
 ok_err v why e = absurd cc
 
 -- an orbit's module is named, or not, in one way
-pub one_orbit_name : (s : State) (n : ℕ) (D : Roots) (signs : SignTable) (name : List ℕ) (w : List ℤ) (r r' : Reply) (t t' : State) → IsLoaded D → NamesOrbit s n D signs name w r t → NamesOrbit s n D signs name w r' t' → Same r r' t t'
+pub one_orbit_name : (s : State) (n : ℕ) (D : RootDatum) (signs : SignTable) (name : List ℕ) (w : List ℤ) (r r' : Reply) (t t' : State) → IsLoaded D → NamesOrbit s n D signs name w r t → NamesOrbit s n D signs name w r' t' → Same r r' t t'
 one_orbit_name s n D signs name w r r' t t' loaded (inl h) (inl h') =
     named_alike s name h.0 h'.0 r r' t t' (ok_is h.0 h'.0 (one_orbit D (eta_of signs) (padded w) (Ok h.0) (Ok h'.0) loaded h.1 h'.1 (ok_named h.0) (ok_named h'.0))) h.2 h'.2
 one_orbit_name s n D signs name w r r' t t' loaded (inl h) (inr h') =

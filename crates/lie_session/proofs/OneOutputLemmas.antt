@@ -3,13 +3,13 @@ use Rattle.std.proofs.Common.{◌≡◌, ◌≢◌, ℕ, ◌+◌, Bool, true, fa
 use Rattle.std.specs.Prelude.{MatchOption, MatchResult, ℤ, map, nat_abs}
 use Rattle.std.specs.Bool.{MatchBool}
 use Rattle.std.specs.Option.{IfSome}
-use Rattle.lie_datum.specs.RootList.{Roots, IsLoaded}
+use Rattle.lie_datum.specs.RootList.{RootDatum, IsLoaded}
 use Rattle.lie_datum.specs.declared.faults.DatumFault.{DatumFault}
 use Rattle.lie_datum.specs.declared.faults.DatumFault.TheVariants as datum_fault
 use Rattle.lie_datum.proofs.OneAnswer.{loads_one_way}
 use Rattle.lie_field.specs.FiniteField.{FiniteField, same_field}
 use Rattle.lie_field.specs.Algebra.FieldTest.{is_lawful}
-use Rattle.lie_field.specs.Faults.{IsSized, IsFault}
+use Rattle.lie_field.specs.Faults.{IsWithinLimit, IsFault}
 use Rattle.lie_field.specs.Quotient.{FieldData, field_data, IsFieldData}
 use Rattle.lie_field.specs.declared.faults.FieldFault.{FieldFault}
 use Rattle.lie_field.specs.declared.faults.FieldFault.TheVariants as field_fault
@@ -42,8 +42,8 @@ use Rattle.lie_reply.proofs.WeylLemmas.{one_weyl_text}
 use Rattle.lie_session.proofs.OneLoading.{Same, both, refused_alike, one_loading, one_adjoint_name, one_orbit_name}
 
 -- a field within the limits has no fault
-no_fault : (given : FieldData) (F : FiniteField) (why : FieldFault) → F.given ≡ given → IsSized F.given → IsFault given why → why ≡ field_fault.NoMemory
-no_fault given F why is sized fault = field_has_no_fault given (subst IsSized is sized) (subst IsFieldData is (is_lawful F)) why fault
+no_fault : (given : FieldData) (F : FiniteField) (why : FieldFault) → F.given ≡ given → IsWithinLimit F.given → IsFault given why → why ≡ field_fault.NoMemory
+no_fault given F why is sized fault = field_has_no_fault given (subst IsWithinLimit is sized) (subst IsFieldData is (is_lawful F)) why fault
 
 one_field : (s : State) (n p : ℕ) (coeffs : List ℤ) (g : ℕ) (r r' : Reply) (t t' : State) → KeepsField s n p coeffs g r t → KeepsField s n p coeffs g r' t' → Same r r' t t'
 one_field s n p coeffs g r r' t t' (inl h) (inl h') =
@@ -56,27 +56,27 @@ one_field s n p coeffs g r r' t t' (inr h) (inr h') =
 
 -- what loading a datum answers
 abbrev Answer : Type 0
-Answer = Result Roots DatumFault
+Answer = Result RootDatum DatumFault
 
-ok_named : (D : Roots) → ◌≡◌ {A = Answer} (Ok D) (Err datum_fault.NoMemory) → ⊥
+ok_named : (D : RootDatum) → ◌≡◌ {A = Answer} (Ok D) (Err datum_fault.NoMemory) → ⊥
 ok_named D e = absurd cc
 
 err_named : (why : DatumFault) → why ≢ datum_fault.NoMemory → ◌≡◌ {A = Answer} (Err why) (Err datum_fault.NoMemory) → ⊥
 err_named why named e = let is : why ≡ datum_fault.NoMemory = cc in named is
 
-ok_is : (D D' : Roots) → ◌≡◌ {A = Answer} (Ok D) (Ok D') → D ≡ D'
+ok_is : (D D' : RootDatum) → ◌≡◌ {A = Answer} (Ok D) (Ok D') → D ≡ D'
 ok_is D D' e = cc
 
 err_is : (why why' : DatumFault) → ◌≡◌ {A = Answer} (Err why) (Err why') → why ≡ why'
 err_is why why' e = cc
 
-ok_err : (D : Roots) (why : DatumFault) → ◌≡◌ {A = Answer} (Ok D) (Err why) → ⊥
+ok_err : (D : RootDatum) (why : DatumFault) → ◌≡◌ {A = Answer} (Ok D) (Err why) → ⊥
 ok_err D why e = absurd cc
 
 one_datum : (s : State) (n : ℕ) (lines : DatumLines) (r r' : Reply) (t t' : State) → KeepsDatum s n lines r t → KeepsDatum s n lines r' t' → Same r r' t t'
 one_datum s n lines r r' t t' (inl h) (inl h') =
     let same : h.0 ≡ h'.0 = ok_is h.0 h'.0 (loads_one_way (base_of lines) (Ok h.0) (Ok h'.0) h.1 h'.1 (ok_named h.0) (ok_named h'.0)) in
-    (h.2.0 ∙ sym h'.2.0, h.2.1 ∙ ap (λ (D : Roots). record s { datum = datum.Whole D }) same ∙ sym h'.2.1)
+    (h.2.0 ∙ sym h'.2.0, h.2.1 ∙ ap (λ (D : RootDatum). record s { datum = datum.Whole D }) same ∙ sym h'.2.1)
 one_datum s n lines r r' t t' (inl h) (inr h') = absurd (ok_err h.0 h'.0 (loads_one_way (base_of lines) (Ok h.0) (Err h'.0) h.1 h'.2 (ok_named h.0) (err_named h'.0 h'.1)))
 one_datum s n lines r r' t t' (inr h) (inl h') = absurd (ok_err h'.0 h.0 (loads_one_way (base_of lines) (Ok h'.0) (Err h.0) h'.1 h.2 (ok_named h'.0) (err_named h.0 h.1)))
 one_datum s n lines r r' t t' (inr h) (inr h') =
@@ -96,7 +96,7 @@ one_in_datum s n grown (datum.Reading lines) r r' t t' h h' = one_joined (is_who
 one_in_datum s n grown (datum.Whole D) r r' t t' h h' = absurd h
 
 -- the same answer, by a text that the field and the datum tell
-one_answer : (s : State) (text : FiniteField → Roots → List ℕ) (field : Option FiniteField) (d : Option Roots) (r r' : Reply) (t t' : State)
+one_answer : (s : State) (text : FiniteField → RootDatum → List ℕ) (field : Option FiniteField) (d : Option RootDatum) (r r' : Reply) (t t' : State)
     → MatchOption field ⊥ (λ F. MatchOption d ⊥ (λ D. Answers s (text F D) r t))
     → MatchOption field ⊥ (λ F. MatchOption d ⊥ (λ D. Answers s (text F D) r' t')) → Same r r' t t'
 one_answer s text None d r r' t t' h h' = absurd h
@@ -106,28 +106,28 @@ one_answer s text (Some F) (Some D) r r' t t' h h' = both h h'
 answered_alike : (s : State) (text text' : List ℕ) (r r' : Reply) (t t' : State) → text ≡ text' → Answers s text r t → Answers s text' r' t' → Same r r' t t'
 answered_alike s text text' r r' t t' same h h' = both h (subst (λ z. Answers s z r' t') (sym same) h')
 
-one_form : (s : State) (w : List Letter) (field : Option FiniteField) (d : Option Roots) (r r' : Reply) (t t' : State)
+one_form : (s : State) (w : List Letter) (field : Option FiniteField) (d : Option RootDatum) (r r' : Reply) (t t' : State)
     → MatchOption field ⊥ (λ F. MatchOption d ⊥ (λ D. AnswersForm s F D w r t))
     → MatchOption field ⊥ (λ F. MatchOption d ⊥ (λ D. AnswersForm s F D w r' t')) → Same r r' t t'
 one_form s w None d r r' t t' h h' = absurd h
 one_form s w (Some F) None r r' t t' h h' = absurd h
 one_form s w (Some F) (Some D) r r' t t' h h' = answered_alike s h.0 h'.0 r r' t t' (one_text F D w h.0 h'.0 h.1 h'.1) h.2 h'.2
 
-one_weyl : (s : State) (indices : List ℤ) (field : Option FiniteField) (d : Option Roots) (r r' : Reply) (t t' : State) → IfSome d IsLoaded
+one_weyl : (s : State) (indices : List ℤ) (field : Option FiniteField) (d : Option RootDatum) (r r' : Reply) (t t' : State) → IfSome d IsLoaded
     → MatchOption field ⊥ (λ F. MatchOption d ⊥ (λ D. AnswersWeyl s D indices r t))
     → MatchOption field ⊥ (λ F. MatchOption d ⊥ (λ D. AnswersWeyl s D indices r' t')) → Same r r' t t'
 one_weyl s indices None d r r' t t' loaded h h' = absurd h
 one_weyl s indices (Some F) None r r' t t' loaded h h' = absurd h
 one_weyl s indices (Some F) (Some D) r r' t t' loaded h h' = answered_alike s h.0 h'.0 r r' t t' (one_weyl_text D indices h.0 h'.0 loaded h.1 h'.1) h.2 h'.2
 
-one_constant : (s : State) (p q : ℤ) (field : Option FiniteField) (d : Option Roots) (r r' : Reply) (t t' : State) → IfSome d IsLoaded
+one_constant : (s : State) (p q : ℤ) (field : Option FiniteField) (d : Option RootDatum) (r r' : Reply) (t t' : State) → IfSome d IsLoaded
     → MatchOption field ⊥ (λ F. MatchOption d ⊥ (λ D. AnswersConstant s D p q r t))
     → MatchOption field ⊥ (λ F. MatchOption d ⊥ (λ D. AnswersConstant s D p q r' t')) → Same r r' t t'
 one_constant s p q None d r r' t t' loaded h h' = absurd h
 one_constant s p q (Some F) None r r' t t' loaded h h' = absurd h
 one_constant s p q (Some F) (Some D) r r' t t' loaded h h' = answered_alike s h.0 h'.0 r r' t t' (one_constant_text D p q h.0 h'.0 loaded h.1 h'.1) h.2 h'.2
 
-one_group : (s : State) (n : ℕ) (field : Option FiniteField) (d : Option Roots) (r r' : Reply) (t t' : State) → IfSome d IsLoaded
+one_group : (s : State) (n : ℕ) (field : Option FiniteField) (d : Option RootDatum) (r r' : Reply) (t t' : State) → IfSome d IsLoaded
     → MatchOption field ⊥ (λ F. MatchOption d ⊥ (λ D. LoadsGroup s n F D r t))
     → MatchOption field ⊥ (λ F. MatchOption d ⊥ (λ D. LoadsGroup s n F D r' t')) → Same r r' t t'
 one_group s n None d r r' t t' loaded h h' = absurd h
@@ -135,8 +135,8 @@ one_group s n (Some F) None r r' t t' loaded h h' = absurd h
 one_group s n (Some F) (Some D) r r' t t' loaded h h' = one_loading s n F D r r' t t' loaded h h'
 
 -- of two replies by the field, the datum and one more value
-one_with : (P P' : FiniteField → Roots → Type 0) (field : Option FiniteField) (d : Option Roots) (r r' : Reply) (t t' : State) → IfSome d IsLoaded
-    → ((F : FiniteField) (D : Roots) → IsLoaded D → P F D → P' F D → Same r r' t t')
+one_with : (P P' : FiniteField → RootDatum → Type 0) (field : Option FiniteField) (d : Option RootDatum) (r r' : Reply) (t t' : State) → IfSome d IsLoaded
+    → ((F : FiniteField) (D : RootDatum) → IsLoaded D → P F D → P' F D → Same r r' t t')
     → MatchOption field ⊥ (λ F. MatchOption d ⊥ (λ D. P F D)) → MatchOption field ⊥ (λ F. MatchOption d ⊥ (λ D. P' F D)) → Same r r' t t'
 one_with P P' None d r r' t t' loaded go h h' = absurd h
 one_with P P' (Some F) None r r' t t' loaded go h h' = absurd h

@@ -15,7 +15,7 @@ use Rattle.lie_const.specs.ConstantTables.{ConstantTable}
 use Rattle.lie_audit.specs.WordMatrix.{IsWordFor, frame_with}
 use Rattle.lie_const.specs.Modules.{Module, IsModule, dimension}
 use Rattle.lie_datum.specs.RootDatum.{IsWithin}
-use Rattle.lie_datum.specs.RootList.{Roots, IsNumber, IsLoaded}
+use Rattle.lie_datum.specs.RootList.{RootDatum, IsNumber, IsLoaded}
 use Rattle.lie_datum.proofs.NumberLemmas.{some_within}
 use Rattle.lie_datum.proofs.SignedRoots.{opposite_number}
 use Rattle.lie_field.specs.FiniteField.{FiniteField}
@@ -166,12 +166,12 @@ loaded_from (Some F) (datum.Whole D) true there = refl
 loaded_from (Some F) (datum.Whole D) false there = refl
 
 -- signed numbers within the count name roots
-root_number : (D : Roots) (k : ℤ) → allows (RootOf (length D.positive)) k ≡ true → IsNumber D k
+root_number : (D : RootDatum) (k : ℤ) → allows (RootOf (length D.positive)) k ≡ true → IsNumber D k
 root_number D (pos zero) h = absurd cc
 root_number D (pos (suc k)) h = some_within D.positive k (grind (arith, h))
 root_number D (negsuc k) h = (opposite_number D (pos (suc k)) (some_within D.positive k (grind (arith, h)))).0
 
-pair_of : (D : Roots) (p q : ℤ) → allows (RootOf (length D.positive)) p ≡ true → allows (RootOf (length D.positive)) q ≡ true → nat_abs p ≢ nat_abs q → IsPair D p q
+pair_of : (D : RootDatum) (p q : ℤ) → allows (RootOf (length D.positive)) p ≡ true → allows (RootOf (length D.positive)) q ≡ true → nat_abs p ≢ nat_abs q → IsPair D p q
 pair_of D p q h g apart = record {
   left = root_number D p h;
   right = root_number D q g;
@@ -285,7 +285,7 @@ pub replies_fault : (s : State) (n : ℕ) (bytes : List ℕ) (reply : Reply) (ne
 replies_fault s n bytes reply next answer why is err h =
     replied_so s n reply next (reads (wants_of s) (sizes_of s) (listed_of s.modules) bytes) (Err why) (sym err ∙ is) h
 
-pub both_held : (P : FiniteField → Roots → Type 0) (field : Option FiniteField) (stage : DatumStage) (F : FiniteField) (D : Roots) → IsSomeAnd field (λ F. IsSomeAnd (whole stage) (λ D. P F D))
+pub both_held : (P : FiniteField → RootDatum → Type 0) (field : Option FiniteField) (stage : DatumStage) (F : FiniteField) (D : RootDatum) → IsSomeAnd field (λ F. IsSomeAnd (whole stage) (λ D. P F D))
     → field ≡ Some F → stage ≡ datum.Whole D → P F D
 both_held P field stage F D h field_is stage_is =
     subst (λ (z : DatumStage). IsSomeAnd (whole z) (λ D. P F D)) stage_is (subst (λ (o : Option FiniteField). IsSomeAnd o (λ F. IsSomeAnd (whole stage) (λ D. P F D))) field_is h)
@@ -302,11 +302,11 @@ module_held (datum.Whole D) modules name v h e =
     subst (λ (o : Option Module). IfSome o (IsModule D)) e (All-lookup (IsModule D) (λ other. bytes_eq other name) modules (All-from_recursion (λ e. IsModule D e.1) modules h))
 
 -- what holds of the datum of a session
-pub datum_held : (P : Roots → Type 0) (stage : DatumStage) (D : Roots) → IsSomeAnd (whole stage) P → stage ≡ datum.Whole D → P D
+pub datum_held : (P : RootDatum → Type 0) (stage : DatumStage) (D : RootDatum) → IsSomeAnd (whole stage) P → stage ≡ datum.Whole D → P D
 datum_held P stage D h stage_is = subst (λ (z : DatumStage). IsSomeAnd (whole z) P) stage_is h
 
 -- the word of a line is a word of the group
-pub form_over : (s : State) (said : Line) (w : List Letter) (F : FiniteField) (D : Roots) (c : ConstantTable) → Ready s said → said ≡ line.Form w → s.field ≡ Some F → s.datum ≡ datum.Whole D → IsWordOver (frame_of F D c) w
+pub form_over : (s : State) (said : Line) (w : List Letter) (F : FiniteField) (D : RootDatum) (c : ConstantTable) → Ready s said → said ≡ line.Form w → s.field ≡ Some F → s.datum ≡ datum.Whole D → IsWordOver (frame_of F D c) w
 form_over s said w F D c ready says field_is datum_is =
     both_held (λ F D. (c : ConstantTable) → IsWordOver (frame_of F D c) w) s.field s.datum F D (subst (Ready s) says ready).1 field_is datum_is c
 

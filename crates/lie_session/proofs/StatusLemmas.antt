@@ -3,9 +3,9 @@ use Rattle.std.proofs.Common.{◌≡◌, ◌≢◌, ℕ, ◌+◌, Bool, true, fa
 use Rattle.std.specs.Prelude.{not, nat_eq}
 use Rattle.std.specs.Bool.{MatchBool}
 use Rattle.std.proofs.lemmas.Bool.{false≢true}
-use Rattle.lie_datum.specs.RootList.{Roots, IsLoaded}
+use Rattle.lie_datum.specs.RootList.{RootDatum, IsLoaded}
 use Rattle.lie_field.specs.FiniteField.{FiniteField}
-use Rattle.lie_field.specs.Faults.{IsSized}
+use Rattle.lie_field.specs.Faults.{IsWithinLimit}
 use Rattle.std.specs.Option.{IfSome}
 use Rattle.lie_script.specs.Texts.{name_of, refusal}
 use Rattle.lie_script.specs.declared.faults.FaultName.TheVariants as fault
@@ -217,12 +217,12 @@ sound_to : (mode : Mode) (lines : List (List ℕ)) (replies : List Reply) (s : S
 sound_to mode lines replies s h = kept_to IsSoundState sound_from mode fresh 0 lines replies s (record { sized = tt; loaded = tt }) h
 
 -- each field that a script brings is within the limits
-pub fields_are_sized : (mode : Mode) (lines : List (List ℕ)) (replies : List Reply) (s : State) (F : FiniteField) → RepliesTo mode fresh 0 lines replies s → s.field ≡ Some F → IsSized F.given
+pub fields_are_sized : (mode : Mode) (lines : List (List ℕ)) (replies : List Reply) (s : State) (F : FiniteField) → RepliesTo mode fresh 0 lines replies s → s.field ≡ Some F → IsWithinLimit F.given
 fields_are_sized mode lines replies s F h is =
-    subst (λ o. IfSome o (λ (F : FiniteField). IsSized F.given)) is (sound_to mode lines replies s h).sized
+    subst (λ o. IfSome o (λ (F : FiniteField). IsWithinLimit F.given)) is (sound_to mode lines replies s h).sized
 
 -- each datum that a script brings meets the axioms
-pub data_are_loaded : (mode : Mode) (lines : List (List ℕ)) (replies : List Reply) (s : State) (D : Roots) → RepliesTo mode fresh 0 lines replies s → whole s.datum ≡ Some D → IsLoaded D
+pub data_are_loaded : (mode : Mode) (lines : List (List ℕ)) (replies : List Reply) (s : State) (D : RootDatum) → RepliesTo mode fresh 0 lines replies s → whole s.datum ≡ Some D → IsLoaded D
 data_are_loaded mode lines replies s D h is = subst (λ o. IfSome o IsLoaded) is (sound_to mode lines replies s h).loaded
 
 -- ---- before `load` nothing is counted

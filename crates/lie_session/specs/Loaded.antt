@@ -15,9 +15,9 @@ use Rattle.lie_const.specs.Braids.{HasBraids}
 use Rattle.lie_const.specs.ConstantTables.{ConstantTable, LoadsConstants}
 use Rattle.lie_const.specs.Modules.{Module}
 use Rattle.lie_const.specs.Signs.{SignTable, eta_of}
-use Rattle.lie_datum.specs.RootList.{Roots, IsLoaded}
+use Rattle.lie_datum.specs.RootList.{RootDatum, IsLoaded}
 use Rattle.lie_field.specs.FiniteField.{FiniteField}
-use Rattle.lie_field.specs.Faults.{IsSized}
+use Rattle.lie_field.specs.Faults.{IsWithinLimit}
 use Rattle.lie_letters.specs.declared.letter.Letter.{Letter}
 use Rattle.lie_reply.specs.Modules.{matrix_text}
 use Rattle.lie_script.specs.Reading.{reads}
@@ -32,20 +32,20 @@ use Rattle.lie_session.specs.declared.mode.Mode.{Mode}
 use Rattle.lie_session.specs.declared.reply.Reply.{Reply}
 
 -- the module is the adjoint module of the datum, or that of the orbit of a weight by the signs
-abbrev pub IsBuilt : Roots → SignTable → Module → Type 0
+abbrev pub IsBuilt : RootDatum → SignTable → Module → Type 0
 IsBuilt D t v = IsAdjointOf D v ⊎ ((w : List ℤ) × (length w ≡ D.base.dim) × LoadsOrbit D (eta_of t) (padded w) (Ok v))
 
 -- A group is loaded: of a field within the limits and a datum that meets the axioms, with constants; its signs are those of the
 -- adjoint module, all as they should be, and their braid values are 1. Each named module is built from them, and its name finds it.
 pub record HasGroup (s : State) : Type 0 where
   pub field : FiniteField
-  pub datum : Roots
+  pub datum : RootDatum
   pub signs : SignTable
   pub adjoint : Module
   pub field_is : s.field ≡ Some field
   pub datum_is : whole s.datum ≡ Some datum
   pub signs_are : s.signs ≡ Some signs
-  pub sized : IsSized field.given
+  pub sized : IsWithinLimit field.given
   pub axioms : IsLoaded datum
   pub constants : (c : ConstantTable) × LoadsConstants datum (Ok c)
   pub is_adjoint : IsAdjointOf datum adjoint

@@ -3,9 +3,9 @@
 use Rattle.std.specs.Prelude.{◌≡◌, ◌⊎◌, ℕ, ◌+◌, if◌then◌else◌, Bool, true, false, List, [], ◌∷◌, ◌++◌, length, ◌||◌, Some}
 use Rattle.std.specs.Bool.{MatchBool}
 use Rattle.std.specs.List.{list_any}
-use Rattle.lie_datum.specs.RootList.{Roots, IsLoaded}
+use Rattle.lie_datum.specs.RootList.{RootDatum, IsLoaded}
 use Rattle.lie_field.specs.FiniteField.{FiniteField}
-use Rattle.lie_field.specs.Faults.{IsSized}
+use Rattle.lie_field.specs.Faults.{IsWithinLimit}
 use Rattle.lie_session.specs.Lines.{lines_of}
 use Rattle.lie_session.specs.State.{State, fresh, whole}
 use Rattle.lie_session.specs.Replies.{Replies, RepliesAtEnd}
@@ -89,10 +89,10 @@ OneOutput =
 abbrev pub FieldsAreSized : Type 0
 FieldsAreSized =
     (mode : Mode) (lines : List (List ℕ)) (replies : List Reply) (s : State) (F : FiniteField) → RepliesTo mode fresh 0 lines replies s → s.field ≡ Some F
-    → IsSized F.given
+    → IsWithinLimit F.given
 
 -- each datum that a script brings meets the axioms
 abbrev pub DataAreLoaded : Type 0
 DataAreLoaded =
-    (mode : Mode) (lines : List (List ℕ)) (replies : List Reply) (s : State) (D : Roots) → RepliesTo mode fresh 0 lines replies s
+    (mode : Mode) (lines : List (List ℕ)) (replies : List Reply) (s : State) (D : RootDatum) → RepliesTo mode fresh 0 lines replies s
     → whole s.datum ≡ Some D → IsLoaded D

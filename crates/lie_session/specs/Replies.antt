@@ -20,12 +20,12 @@ use Rattle.lie_const.specs.Signs.{SignTable, eta_of}
 use Rattle.lie_const.specs.declared.faults.ConstFault.{ConstFault}
 use Rattle.lie_const.specs.declared.faults.ConstFault.TheVariants as constants_fault
 use Rattle.lie_datum.specs.Load.{Loads}
-use Rattle.lie_datum.specs.RootList.{Roots}
+use Rattle.lie_datum.specs.RootList.{RootDatum}
 use Rattle.lie_datum.specs.declared.faults.DatumFault.{DatumFault}
 use Rattle.lie_datum.specs.declared.faults.DatumFault.TheVariants as datum_fault
 use Rattle.lie_field.specs.FiniteField.{FiniteField}
 use Rattle.lie_field.specs.Quotient.{field_data}
-use Rattle.lie_field.specs.Faults.{IsSized, IsFault}
+use Rattle.lie_field.specs.Faults.{IsWithinLimit, IsFault}
 use Rattle.lie_field.specs.declared.faults.FieldFault.{FieldFault}
 use Rattle.lie_field.specs.declared.faults.FieldFault.TheVariants as field_fault
 use Rattle.lie_letters.specs.declared.letter.Letter.{Letter}
@@ -73,13 +73,13 @@ Answers next text reply new = (reply ≡ record { kind = kind.Answer; bytes = te
 -- the field of the numbers of a line is kept; where they give none within the limits, the line is refused for the first fault
 abbrev pub KeepsField : State → ℕ → ℕ → List ℤ → ℕ → Reply → State → Type 0
 KeepsField s n p coeffs g reply next =
-    ((F : FiniteField) × (F.given ≡ field_data p (map nat_abs coeffs) g) × IsSized F.given × Accepts (record s { field = Some F }) reply next)
+    ((F : FiniteField) × (F.given ≡ field_data p (map nat_abs coeffs) g) × IsWithinLimit F.given × Accepts (record s { field = Some F }) reply next)
     ⊎ ((why : FieldFault) × (why ≢ field_fault.NoMemory) × IsFault (field_data p (map nat_abs coeffs) g) why × Refuses s (field_refusal n why) reply next)
 
 -- the datum of whole lines is kept; where they give none, the line is refused for the first fault
 abbrev pub KeepsDatum : State → ℕ → DatumLines → Reply → State → Type 0
 KeepsDatum s n lines reply next =
-    ((D : Roots) × Loads (base_of lines) (Ok D) × Accepts (record s { datum = datum.Whole D }) reply next)
+    ((D : RootDatum) × Loads (base_of lines) (Ok D) × Accepts (record s { datum = datum.Whole D }) reply next)
     ⊎ ((why : DatumFault) × (why ≢ datum_fault.NoMemory) × Loads (base_of lines) (Err why) × Refuses s (datum_refusal n lines.rank why) reply next)
 
 -- a line joins the lines of the datum, and the last one completes them
@@ -94,23 +94,23 @@ InDatum (datum.Reading lines) P = P lines
 InDatum (datum.Whole D) P = ⊥
 
 -- P of the field and the datum
-abbrev pub WithBoth : State → (FiniteField → Roots → Type 0) → Type 0
+abbrev pub WithBoth : State → (FiniteField → RootDatum → Type 0) → Type 0
 WithBoth s P = MatchOption s.field ⊥ (λ F. MatchOption (whole s.datum) ⊥ (λ D. P F D))
 
 -- the braid values of the signs are 1, and the group is loaded; else the line is refused for the first that is not
-abbrev pub LoadsBraids : State → ℕ → FiniteField → Roots → SignTable → Reply → State → Type 0
+abbrev pub LoadsBraids : State → ℕ → FiniteField → RootDatum → SignTable → Reply → State → Type 0
 LoadsBraids s n F D t reply next =
     (HasBraids D (eta_of t) × Answers (record s { loaded = true; signs = Some t }) (loaded_text F D) reply next)
     ⊎ ((i j : ℕ) × (c : ℤ) × IsFirstBadBraid D (eta_of t) i j c × Refuses s (braid_refusal n i j c) reply next)
 
 -- the signs of the adjoint module are as they should be, and the braid values are tested; else the line is refused for the first that is not
-abbrev pub LoadsSigns : State → ℕ → FiniteField → Roots → Reply → State → Type 0
+abbrev pub LoadsSigns : State → ℕ → FiniteField → RootDatum → Reply → State → Type 0
 LoadsSigns s n F D reply next =
     ((v : Module) × (t : SignTable) × IsAdjointOf D v × AreTestedSigns D v t × HasSignCount t × LoadsBraids s n F D t reply next)
     ⊎ ((v : Module) × (why : SignFault) × IsAdjointOf D v × (why ≢ sign_fault.NoMemory) × IsSignFault D v why × Refuses s (signs_refusal n why) reply next)
 
 -- the constants of the datum are there, and the signs are tested; else the line is refused for the first constant that fails
-abbrev pub LoadsGroup : State → ℕ → FiniteField → Roots → Reply → State → Type 0
+abbrev pub LoadsGroup : State → ℕ → FiniteField → RootDatum → Reply → State → Type 0
 LoadsGroup s n F D reply next =
     ((c : ConstantTable) × LoadsConstants D (Ok c) × LoadsSigns s n F D reply next)
     ⊎ ((why : ConstFault) × (why ≢ constants_fault.NoMemory) × LoadsConstants D (Err why) × Refuses s (constants_refusal n why) reply next)
@@ -118,15 +118,15 @@ LoadsGroup s n F D reply next =
 -- ---- commands
 
 -- the answer is the text of the form of the word
-abbrev pub AnswersForm : State → FiniteField → Roots → List Letter → Reply → State → Type 0
+abbrev pub AnswersForm : State → FiniteField → RootDatum → List Letter → Reply → State → Type 0
 AnswersForm s F D w reply next = (text : List ℕ) × FormTextOf F D w text × Answers s text reply next
 
 -- the answer is the text of N_pq and of the terms
-abbrev pub AnswersConstant : State → Roots → ℤ → ℤ → Reply → State → Type 0
+abbrev pub AnswersConstant : State → RootDatum → ℤ → ℤ → Reply → State → Type 0
 AnswersConstant s D p q reply next = (text : List ℕ) × ConstantTextOf D p q text × Answers s text reply next
 
 -- the answer is the text of the product
-abbrev pub AnswersWeyl : State → Roots → List ℤ → Reply → State → Type 0
+abbrev pub AnswersWeyl : State → RootDatum → List ℤ → Reply → State → Type 0
 AnswersWeyl s D indices reply next = (text : List ℕ) × WeylTextOf D indices text × Answers s text reply next
 
 -- the module gets the name
@@ -134,11 +134,11 @@ abbrev pub NamesModule : State → List ℕ → Module → Reply → State → T
 NamesModule s name v reply next = Answers (record s { modules = s.modules ++ (name, v) ∷ [] }) (module_text name (dimension v)) reply next
 
 -- the adjoint module gets the name
-abbrev pub NamesAdjoint : State → Roots → List ℕ → Reply → State → Type 0
+abbrev pub NamesAdjoint : State → RootDatum → List ℕ → Reply → State → Type 0
 NamesAdjoint s D name reply next = (v : Module) × IsAdjointOf D v × NamesModule s name v reply next
 
 -- the module of the orbit of the weight gets the name; where there is none, the line is refused for the first fault
-abbrev pub NamesOrbit : State → ℕ → Roots → SignTable → List ℕ → List ℤ → Reply → State → Type 0
+abbrev pub NamesOrbit : State → ℕ → RootDatum → SignTable → List ℕ → List ℤ → Reply → State → Type 0
 NamesOrbit s n D t name w reply next =
     ((v : Module) × LoadsOrbit D (eta_of t) (padded w) (Ok v) × NamesModule s name v reply next)
     ⊎ ((why : ModuleFault) × (why ≢ orbit_fault.NoMemory) × LoadsOrbit D (eta_of t) (padded w) (Err why) × Refuses s (orbit_refusal n why) reply next)

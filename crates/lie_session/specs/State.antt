@@ -3,7 +3,7 @@
 use Rattle.std.specs.Prelude.{ℕ, Bool, true, false, if◌then◌else◌, nat_eq, [], length, Option, Some, None}
 use Rattle.lie_const.specs.Signs.{SignTable}
 use Rattle.lie_datum.specs.RootDatum.{rank}
-use Rattle.lie_datum.specs.RootList.{Roots}
+use Rattle.lie_datum.specs.RootList.{RootDatum}
 use Rattle.lie_field.specs.FiniteField.{FiniteField}
 use Rattle.lie_field.specs.Quotient.{order}
 use Rattle.lie_script.specs.declared.sizes.Sizes.{Sizes}
@@ -37,7 +37,7 @@ abbrev pub fresh : State
 fresh = record { field = None; datum = datum.Missing; loaded = false; signs = None; modules = []; refusals = 0; ended = false }
 
 -- the datum, once all its lines were accepted
-abbrev pub whole : DatumStage → Option Roots
+abbrev pub whole : DatumStage → Option RootDatum
 whole datum.Missing = None
 whole (datum.Reading lines) = None
 whole (datum.Whole D) = Some D

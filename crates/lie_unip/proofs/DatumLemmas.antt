@@ -11,7 +11,7 @@ use Rattle.std.proofs.lemmas.Option.{unwrap_or-slice_get}
 use Rattle.lie_datum.specs.declared.root_pair.Root.{Root}
 use Rattle.lie_datum.specs.Vectors.{total, times, pairing}
 use Rattle.lie_datum.specs.RootDatum.{rank, IsRoot, simple}
-use Rattle.lie_datum.specs.RootList.{Roots, IsLoaded, IsNumber, root_of, height}
+use Rattle.lie_datum.specs.RootList.{RootDatum, IsLoaded, IsNumber, root_of, height}
 use Rattle.lie_datum.proofs.NumberLemmas.{place_within, some_within}
 use Rattle.lie_datum.proofs.SignedRoots.{root_is}
 use Rattle.lie_datum.proofs.HeightLemmas.{total-plus, number_is_positive, positive_number}
@@ -45,7 +45,7 @@ times_negative zero z l h = absurd (omega (arith, l))
 times_negative (suc k) (pos z) l h = absurd (omega (arith, ints, h))
 times_negative (suc k) (negsuc z) l h = omega (arith, ints)
 
-module _ (d : Roots) (loaded : IsLoaded d) (t : ConstantTable) (loads : LoadsConstants d (Ok t)) where
+module _ (d : RootDatum) (loaded : IsLoaded d) (t : ConstantTable) (loads : LoadsConstants d (Ok t)) where
   -- the first m positive numbers name roots
   numbers : (r : ℕ) → 1 ≤ r → r ≤ t.positive → IsNumber d (pos r)
   numbers zero low high = absurd (omega (arith, low))
@@ -165,12 +165,12 @@ module _ (d : Roots) (loaded : IsLoaded d) (t : ConstantTable) (loads : LoadsCon
     kept_apart r s low below high e f = none_kept r s (terms_of t (pos r) (pos s)) low below high e f (later_at r s low below high)
 
 -- the number of a root, without its sign
-pub number_within : (d : Roots) (k : ℤ) → IsNumber d k → (1 ≤ nat_abs k) × (nat_abs k ≤ length d.positive)
+pub number_within : (d : RootDatum) (k : ℤ) → IsNumber d k → (1 ≤ nat_abs k) × (nat_abs k ≤ length d.positive)
 number_within d (pos k) n = let b = place_within d (pos k) n in let x = b.0 in let y = b.1 in (omega (arith, ints, x), omega (arith, ints, y))
 number_within d (negsuc k) n = let b = place_within d (negsuc k) n in let x = b.0 in let y = b.1 in (omega (arith, ints, x), omega (arith, ints, y))
 
 -- a list of the roots that are kept, one root more
-pub kept_more : (d : Roots) → IsLoaded d → (word : List ℕ) (k : ℕ) (z : ℤ) (b : Bool) (old new : List Bool) → AreLetters d.base word → k < length d.positive → IsNumber d z
+pub kept_more : (d : RootDatum) → IsLoaded d → (word : List ℕ) (k : ℕ) (z : ℤ) (b : Bool) (old new : List Bool) → AreLetters d.base word → k < length d.positive → IsNumber d z
     → root_of d z ≡ moved d.base word (root_of d (pos (k + 1))) → (IsTrue b → pos 0 <ℤ z) → (pos 0 <ℤ z → IsTrue b) → old ≡ take k (kept_by d word) → new ≡ old ++ b ∷ []
     → new ≡ take (k + 1) (kept_by d word)
 kept_more d loaded word k z b old new letters inside number image up down e f =
@@ -192,5 +192,5 @@ kept_more d loaded word k z b old new letters inside number image up down e f =
     value false g false h = down (positive_number d loaded z number (test_positive (root_of d z) g)) ∙ sym (ap not g)
 
 -- there is an answer for each positive root
-pub length-kept_by : (d : Roots) (word : List ℕ) → length (kept_by d word) ≡ length d.positive
+pub length-kept_by : (d : RootDatum) (word : List ℕ) → length (kept_by d word) ≡ length d.positive
 length-kept_by d word = length-map d.positive (λ r. not (is_negative (moved d.base word r)))

@@ -5,7 +5,7 @@ use Rattle.std.specs.Option.{option_map}
 use Rattle.std.proofs.lemmas.Bool.Decides.{nat_tests}
 use Rattle.lie_ring.specs.Rings.{RingOn}
 use Rattle.lie_letters.specs.RingLetters.{RingLetter, CommutatorTerm, term_letters, inverted, Within}
-use Rattle.lie_unip.specs.Collection.{replacement, next_word, rewritten, Ends, at_end, by_step, ComeAfter, IsOrder, AreCollectable}
+use Rattle.lie_unip.specs.Collection.{replacement, next_word, rewritten, Ends, at_end, by_step, ComeAfter, IsStrictOrder, AreCollectable}
 use Rattle.lie_unip.proofs.BoundLemmas.{rewritten-within, SomeWithin}
 use Rattle.lie_unip.proofs.SortedLemmas.{bad}
 
@@ -133,7 +133,7 @@ module _ {A : Type 0} where
           falls = rw (yes, yes_b, rest, e, f) (omega arith);
         }
 
-module _ {A : Type 0} (R : RingOn A) (m : ℕ) (terms : ℕ → ℕ → List CommutatorTerm) (collectable : AreCollectable m terms) (before : ℕ → ℕ → Bool) (order : IsOrder before) where
+module _ {A : Type 0} (R : RingOn A) (m : ℕ) (terms : ℕ → ℕ → List CommutatorTerm) (collectable : AreCollectable m terms) (before : ℕ → ℕ → Bool) (order : IsStrictOrder before) where
   high_terms : (h s : ℕ) (cs : List CommutatorTerm) (t u : A) → h ≤ s → ComeAfter m s cs → High before h (term_letters R cs t u)
   high_terms h s [] t u low c = tt
   high_terms h s (c ∷ cs) t u low g = (omega (arith, g.0), high_terms h s cs t u low g.4)

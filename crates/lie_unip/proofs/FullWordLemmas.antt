@@ -9,7 +9,7 @@ use Rattle.lie_unip.specs.Placing.{Leads}
 use Rattle.lie_letters.specs.RingLetters.{IsRingWord}
 use Rattle.lie_ring.specs.Rings.{RingOn, IsElem, IsRing}
 use Rattle.lie_letters.specs.RingLetters.{RingLetter, CommutatorTerm, Within, full_from}
-use Rattle.lie_unip.specs.Collection.{rewritten, by_step, elements, IsCollected, IsOrder, AreCollectable}
+use Rattle.lie_unip.specs.Collection.{rewritten, by_step, elements, IsCollected, IsStrictOrder, AreCollectable}
 use Rattle.lie_unip.proofs.CarriedLemmas.{IsCollected-once}
 use Rattle.lie_unip.proofs.ElementLemmas.{OfElements-append}
 use Rattle.lie_unip.proofs.BoundLemmas.{Within-append}
@@ -39,7 +39,7 @@ full_lawful R m s [] a b e = (tt, tt)
 full_lawful R m s (x ∷ c) a b e = let rest = full_lawful R m (s + 1) c (omega (arith, a)) (omega (arith, b)) e.1 in ((e.0, rest.0), (a, omega (arith, b), rest.1))
 
 -- the order of the numbers is a strict total one
-pub nat_lt_order : IsOrder nat_lt
+pub nat_lt_order : IsStrictOrder nat_lt
 nat_lt_order = record {
   one_way = λ r s e. grind (arith, nat_tests);
   total = λ r s e f. grind (arith, nat_tests);
@@ -47,7 +47,7 @@ nat_lt_order = record {
 }
 
 module _ {A : Type 0} (R : RingOn A) (ring : IsRing R) (m : ℕ) (terms : ℕ → ℕ → List CommutatorTerm) (collectable : AreCollectable m terms) where
-  module _ (before : ℕ → ℕ → Bool) (order : IsOrder before) where
+  module _ (before : ℕ → ℕ → Bool) (order : IsStrictOrder before) where
     -- a word has the collected list of the word without some letters that are 0
     pub IsCollected-added : (w v : List (RingLetter A)) (u : List A) → Dropped R w v → IsRingWord R m w → IsCollected R terms before m v u → IsCollected R terms before m w u
     IsCollected-added w v u d l c =

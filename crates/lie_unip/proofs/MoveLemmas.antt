@@ -11,7 +11,7 @@ use Rattle.lie_unip.specs.Collection.{IsCollected, elements, at_end}
 use Rattle.lie_unip.specs.Dropping.{dropped, nothing}
 use Rattle.lie_ring.specs.Rings.{RingOn, IsRing}
 use Rattle.lie_letters.specs.RingLetters.{RingLetter, CommutatorTerm, term_letters, inverted, IsRingWord}
-use Rattle.lie_unip.specs.Collection.{replacement, IsOrder, AreCollectable}
+use Rattle.lie_unip.specs.Collection.{replacement, IsStrictOrder, AreCollectable}
 use Rattle.lie_unip.proofs.ElementLemmas.{term_letters-elem, inverted-elem}
 use Rattle.lie_unip.proofs.BoundLemmas.{Within-terms, Within-inverted}
 use Rattle.lie_unip.proofs.SortedLemmas.{bad, BeforeAll, Sorted, first_pair, before_other}
@@ -30,7 +30,7 @@ pub lawful_parts : {A : Type 0} (R : RingOn A) (m : ℕ) (v w : List (RingLetter
 lawful_parts R m [] w l = ((tt, tt), l)
 lawful_parts R m (x ∷ v) w l = let k = lawful_parts R m v w (l.0.1, l.1.2) in (((l.0.0, k.0.0), (l.1.0, l.1.1, k.0.1)), k.1)
 
-module _ {A : Type 0} (R : RingOn A) (ring : IsRing R) (m : ℕ) (terms : ℕ → ℕ → List CommutatorTerm) (collectable : AreCollectable m terms) (before : ℕ → ℕ → Bool) (order : IsOrder before) where
+module _ {A : Type 0} (R : RingOn A) (ring : IsRing R) (m : ℕ) (terms : ℕ → ℕ → List CommutatorTerm) (collectable : AreCollectable m terms) (before : ℕ → ℕ → Bool) (order : IsStrictOrder before) where
   abbrev Up : List (RingLetter A) → List (RingLetter A) → Type 0
   Up w v = Leads R terms before m w v
 

@@ -7,7 +7,7 @@ use Rattle.std.specs.List.{range_with_len}
 use Rattle.lie_ring.specs.Rings.{RingOn}
 use Rattle.lie_letters.specs.RingLetters.{RingLetter, full_from, IsRingWord}
 use Rattle.lie_unip.specs.Dropping.{Dropped, nothing, dropped}
-use Rattle.lie_unip.specs.Collection.{IsOrder}
+use Rattle.lie_unip.specs.Collection.{IsStrictOrder}
 use Rattle.lie_unip.specs.Splitting.{kept_first}
 use Rattle.lie_unip.specs.Placing.{letters_at, BeforeRoots, AreSorted, AreRoots, rank_of}
 use Rattle.lie_unip.proofs.SortedLemmas.{BeforeAll, Sorted, before_other}
@@ -93,7 +93,7 @@ roots_behind m (k ∷ ks) zero q = q
 roots_behind m (k ∷ ks) (suc i) q = roots_behind m ks i q.2
 
 -- the element at a root of the list
-pub letters_lookup : {A : Type 0} (before : ℕ → ℕ → Bool) (order : IsOrder before) (ks : List ℕ) (c : List A) (p : ℕ) (d : A) → AreSorted before ks → p < length ks → p < length c
+pub letters_lookup : {A : Type 0} (before : ℕ → ℕ → Bool) (order : IsStrictOrder before) (ks : List ℕ) (c : List A) (p : ℕ) (d : A) → AreSorted before ks → p < length ks → p < length c
     → lookup (eqb (get_or ks p 0)) (letters_at ks c) ≡ Some (get_or c p d)
 letters_lookup before order [] c p d s h l = absurd (omega (arith, h))
 letters_lookup before order (k ∷ ks) [] p d s h l = absurd (omega (arith, l))

@@ -4,7 +4,7 @@ use Rattle.std.proofs.lemmas.Bool.Decides.{nat_tests}
 use Rattle.std.specs.Option.{option_map}
 use Rattle.lie_ring.specs.Rings.{RingOn}
 use Rattle.lie_letters.specs.RingLetters.{RingLetter, CommutatorTerm}
-use Rattle.lie_unip.specs.Collection.{replacement, next_word, rewritten, Ends, at_end, by_step, IsOrder}
+use Rattle.lie_unip.specs.Collection.{replacement, next_word, rewritten, Ends, at_end, by_step, IsStrictOrder}
 
 -- the pair of neighbours is replaced
 abbrev pub bad : {A : Type 0} → (ℕ → ℕ → Bool) → RingLetter A → RingLetter A → Bool
@@ -20,7 +20,7 @@ abbrev pub Sorted : {A : Type 0} → (ℕ → ℕ → Bool) → List (RingLetter
 Sorted before [] = Unit {0}
 Sorted before (x ∷ w) = BeforeAll before x.0 w × Sorted before w
 
-module _ (before : ℕ → ℕ → Bool) (order : IsOrder before) where
+module _ (before : ℕ → ℕ → Bool) (order : IsStrictOrder before) where
   not_itself : (r : ℕ) → before r r ≡ true → ⊥
   not_itself r e = let f = order.one_way r r e in cc
 

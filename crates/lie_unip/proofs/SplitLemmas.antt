@@ -3,10 +3,10 @@ use Rattle.std.proofs.Common.{◌≡◌, ℕ, Bool, true, false, cond, eqb, refl
 use Rattle.std.proofs.lemmas.Bool.Decides.{nat_tests}
 use Rattle.std.specs.Prelude.{nat_lt}
 use Rattle.lie_unip.specs.Splitting.{kept_first}
-use Rattle.lie_unip.specs.Collection.{IsOrder}
+use Rattle.lie_unip.specs.Collection.{IsStrictOrder}
 
 -- the order in which the roots that are kept come first is a strict total one
-pub kept_first_order : (kept : ℕ → Bool) → IsOrder (kept_first kept)
+pub kept_first_order : (kept : ℕ → Bool) → IsStrictOrder (kept_first kept)
 kept_first_order kept = record {
   one_way = λ r s. one (kept r) (kept s) r s;
   total = λ r s. all (kept r) (kept s) r s;

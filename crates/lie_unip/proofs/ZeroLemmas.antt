@@ -9,7 +9,7 @@ use Rattle.lie_unip.specs.Dropping.{Dropped, nothing, kept, dropped}
 use Rattle.lie_ring.specs.Rings.{RingOn, IsElem, IsRing}
 use Rattle.lie_ring.specs.RingLemmas.{zero_add, mul_zero, zero_mul, neg_zero as neg_zero_of}
 use Rattle.lie_letters.specs.RingLetters.{RingLetter, CommutatorTerm, power, term_letters, inverted, OfElements, Within}
-use Rattle.lie_unip.specs.Collection.{replacement, next_word, rewritten, Ends, at_end, by_step, IsCollected, ComeAfter, IsOrder, AreCollectable}
+use Rattle.lie_unip.specs.Collection.{replacement, next_word, rewritten, Ends, at_end, by_step, IsCollected, ComeAfter, IsStrictOrder, AreCollectable}
 use Rattle.lie_unip.proofs.ElementLemmas.{rewritten-elem, power-elem, SomeOf}
 use Rattle.lie_unip.proofs.BoundLemmas.{rewritten-within, SomeWithin}
 use Rattle.lie_unip.proofs.SortedLemmas.{bad, BeforeAll, Sorted, good_before, before_good, before_other, none_sorted, sorted_none, ends_sorted}
@@ -114,7 +114,7 @@ module _ {A : Type 0} (R : RingOn A) where
               let below : x.0 < s = grind (arith, nat_tests) in
               dropped s (kept x (zero_inverted (zero_second m s (terms x.0 s) x.1 p (collectable.later x.0 s a below d)) refl))
 
-      module _ (before : ℕ → ℕ → Bool) (order : IsOrder before) where
+      module _ (before : ℕ → ℕ → Bool) (order : IsStrictOrder before) where
         -- the first letter is at r or comes after r
         abbrev Starts : ℕ → List (RingLetter A) → Type 0
         Starts r [] = ⊥

@@ -63,7 +63,7 @@ pub record AreCollectable (m : ℕ) (terms : ℕ → ℕ → List CommutatorTerm
   pub few : (r s : ℕ) → 1 ≤ r → r < s → s ≤ m → length (terms r s) ≤ 7
 
 -- what collecting needs of an order: it is a strict total one
-pub record IsOrder (before : ℕ → ℕ → Bool) : Type 0 where
+pub record IsStrictOrder (before : ℕ → ℕ → Bool) : Type 0 where
   pub one_way : (r s : ℕ) → before r s ≡ true → before s r ≡ false
   pub total : (r s : ℕ) → eqb r s ≡ false → before s r ≡ false → before r s ≡ true
   pub trans : (r s t : ℕ) → before r s ≡ true → before s t ≡ true → before r t ≡ true

@@ -7,20 +7,20 @@ use Rattle.std.specs.Prelude.{◌≡◌, ℕ, Bool, List, [], ◌∷◌, ◌++�
 use Rattle.lie_ring.specs.Rings.{RingOn, IsElem}
 use Rattle.lie_letters.specs.RingLetters.{RingLetter, CommutatorTerm, full_word, inverted, IsRingWord, OfElements}
 use Rattle.lie_letters.specs.RingRelations.{RingJoined}
-use Rattle.lie_unip.specs.Collection.{IsCollected, IsOrder, AreEntries}
+use Rattle.lie_unip.specs.Collection.{IsCollected, IsStrictOrder, AreEntries}
 use Rattle.lie_unip.specs.Dropping.{Dropped}
 use Rattle.lie_unip.specs.Splitting.{IsSplit}
 
 -- each word has a collected list, and one alone, in each order
 pub record CollectsOnce {A : Type 0} (R : RingOn A) (m : ℕ) (terms : ℕ → ℕ → List CommutatorTerm) : Type 0 where
-  pub exists : (before : ℕ → ℕ → Bool) → IsOrder before → (w : List (RingLetter A)) → IsRingWord R m w → (u : List A) × IsCollected R terms before m w u
+  pub exists : (before : ℕ → ℕ → Bool) → IsStrictOrder before → (w : List (RingLetter A)) → IsRingWord R m w → (u : List A) × IsCollected R terms before m w u
   pub once : (before : ℕ → ℕ → Bool) (w : List (RingLetter A)) (u v : List A) → IsCollected R terms before m w u → IsCollected R terms before m w v → u ≡ v
 
 -- a word with letters that are 0 has the collected list of the word without them, in each order
 pub record DropsZeros {A : Type 0} (R : RingOn A) (m : ℕ) (terms : ℕ → ℕ → List CommutatorTerm) : Type 0 where
-  pub without : (before : ℕ → ℕ → Bool) → IsOrder before → (w v : List (RingLetter A)) (u : List A) → Dropped R w v → IsRingWord R m w
+  pub without : (before : ℕ → ℕ → Bool) → IsStrictOrder before → (w v : List (RingLetter A)) (u : List A) → Dropped R w v → IsRingWord R m w
       → IsCollected R terms before m w u → IsCollected R terms before m v u
-  pub with : (before : ℕ → ℕ → Bool) → IsOrder before → (w v : List (RingLetter A)) (u : List A) → Dropped R w v → IsRingWord R m w
+  pub with : (before : ℕ → ℕ → Bool) → IsStrictOrder before → (w v : List (RingLetter A)) (u : List A) → Dropped R w v → IsRingWord R m w
       → IsCollected R terms before m v u → IsCollected R terms before m w u
 
 -- a word is joined, over the ring, to the full word of its collected list, and a full word to the full words of its two parts

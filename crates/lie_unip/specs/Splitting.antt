@@ -4,7 +4,7 @@
 --   kept r                  the root r is of the first group
 --   w r_1, w r_2, ..        kept_by d w has true where the image of the positive root is positive
 use Rattle.std.specs.Prelude.{◌≡◌, ℕ, ◌+◌, ◌-◌, Bool, true, false, cond, not, nat_lt, List, [], ◌∷◌, map, slice_index_or}
-use Rattle.lie_datum.specs.RootList.{Roots}
+use Rattle.lie_datum.specs.RootList.{RootDatum}
 use Rattle.lie_weyl.specs.WeylElement.{moved, is_negative}
 use Rattle.lie_ring.specs.Rings.{RingOn}
 use Rattle.lie_letters.specs.RingLetters.{CommutatorTerm, full_word}
@@ -19,7 +19,7 @@ abbrev pub kept_at : List Bool → ℕ → Bool
 kept_at kept r = slice_index_or kept (r - 1) false
 
 -- whether the word of an element of the Weyl group keeps each positive root positive, in order
-abbrev pub kept_by : Roots → List ℕ → List Bool
+abbrev pub kept_by : RootDatum → List ℕ → List Bool
 kept_by d word = map (λ r. not (is_negative (moved d.base word r))) d.positive
 
 -- the elements at the chosen roots, counted from r, and z elsewhere

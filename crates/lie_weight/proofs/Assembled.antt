@@ -5,7 +5,7 @@ use Rattle.std.proofs.lemmas.List.Elements.{All-get_or, All-from_get_or}
 use Rattle.std.proofs.lemmas.List.FromFn.{length-map-range_with_len}
 use Rattle.lie_ring.specs.Matrices.{table, entry, zero_matrix}
 use Rattle.lie_datum.specs.Numbers.{place, number_at}
-use Rattle.lie_datum.specs.RootList.{Roots, IsLoaded, IsNumber}
+use Rattle.lie_datum.specs.RootList.{RootDatum, IsLoaded, IsNumber}
 use Rattle.lie_datum.proofs.LoadedLaws.{short}
 use Rattle.lie_datum.proofs.NumberLemmas.{place_within, numbered_at}
 use Rattle.lie_datum.proofs.SignedRoots.{same_place}
@@ -16,14 +16,14 @@ use Rattle.lie_weight.specs.Kept.{IsSquare, ArePowers, IsKeptModule}
 use Rattle.lie_weight.specs.AdjointParts.{IsDivided, AreDivided, AreAllDivided}
 
 -- the number at the place of a root is its number
-pub number_place : (d : Roots) (r : ℤ) → IsNumber d r → number_at (length d.positive) (place (length d.positive) r) ≡ r
+pub number_place : (d : RootDatum) (r : ℤ) → IsNumber d r → number_at (length d.positive) (place (length d.positive) r) ≡ r
 number_place d r n =
     let m = length d.positive in
     let within = place_within d r n in
     let at = numbered_at d (place m r) within.2 in
     same_place m (number_at m (place m r)) r (place_within d (number_at m (place m r)) at.number) within at.place
 
-module _ (d : Roots) (loaded : IsLoaded d) (n : Table) (v : Module) (positive : v.positive ≡ length d.positive) (weights : v.weights ≡ map (λ a. basis_weight d (basis_vector d a)) (range_with_len 0 (adjoint_dimension d))) (all : AreAllDivided d n (2 * length d.positive) v.powers) where
+module _ (d : RootDatum) (loaded : IsLoaded d) (n : Table) (v : Module) (positive : v.positive ≡ length d.positive) (weights : v.weights ≡ map (λ a. basis_weight d (basis_vector d a)) (range_with_len 0 (adjoint_dimension d))) (all : AreAllDivided d n (2 * length d.positive) v.powers) where
   dim : dimension v ≡ adjoint_dimension d
   dim = ap length weights ∙ length-map-range_with_len (λ a. basis_weight d (basis_vector d a)) 0 (adjoint_dimension d)
 

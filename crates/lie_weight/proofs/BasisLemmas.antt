@@ -2,25 +2,25 @@
 use Rattle.std.proofs.Common.{◌≡◌, ◌≢◌, ℕ, zero, suc, ◌+◌, ◌-◌, ◌<◌, ◌≤◌, ◌⊎◌, ℤ, pos, negsuc, length, refl, sym, ap, subst, ◌∙◌, inl, inr, arith, cond, ltb, slice_get}
 use Rattle.std.proofs.lemmas.Bool.{cases_lt, lt-ltb, le-ltb}
 use Rattle.lie_datum.specs.RootDatum.{rank, IsSimpleIndex, opposite}
-use Rattle.lie_datum.specs.RootList.{Roots, IsNumber}
+use Rattle.lie_datum.specs.RootList.{RootDatum, IsNumber}
 use Rattle.lie_datum.proofs.NumberLemmas.{within, some_within, some_map}
 use Rattle.lie_datum.proofs.SignedRoots.{opposite_number}
 use Rattle.lie_const.specs.Adjoint.{RootVector, CorootVector, adjoint_dimension, basis_vector, basis_place}
 pub use Rattle.lie_weight.specs.AdjointParts.{coroot_place}
 
 -- the place a has the basis vector e_r
-pub record IsRootPlace (d : Roots) (a : ℕ) (r : ℤ) : Type 0 where
+pub record IsRootPlace (d : RootDatum) (a : ℕ) (r : ℤ) : Type 0 where
   pub number : IsNumber d r
   pub place : a ≡ basis_place d r
   pub vector : basis_vector d a ≡ RootVector r
 
 -- the place a has the basis vector h_i
-pub record IsCorootPlace (d : Roots) (a i : ℕ) : Type 0 where
+pub record IsCorootPlace (d : RootDatum) (a i : ℕ) : Type 0 where
   pub index : IsSimpleIndex d.base i
   pub place : a ≡ coroot_place d i
   pub vector : basis_vector d a ≡ CorootVector i
 
-module _ (d : Roots) where
+module _ (d : RootDatum) where
   upper : (a : ℕ) → a < length d.positive → basis_vector d a ≡ RootVector (pos (length d.positive - a))
   upper a l = ap (λ t. cond t (RootVector (pos (length d.positive - a))) (cond (ltb a (length d.positive + rank d.base)) (CorootVector (suc (a - length d.positive))) (RootVector (negsuc (a - (length d.positive + rank d.base)))))) (lt-ltb a (length d.positive) l)
 
@@ -99,7 +99,7 @@ module _ (d : Roots) where
   ]
 
 -- different roots have different places
-pub one_place : (d : Roots) (r s : ℤ) → IsNumber d r → IsNumber d s → basis_place d r ≡ basis_place d s → r ≡ s
+pub one_place : (d : RootDatum) (r s : ℤ) → IsNumber d r → IsNumber d s → basis_place d r ≡ basis_place d s → r ≡ s
 one_place d r s m n e =
     let p = (root_place d r m).vector in
     let q = (root_place d s n).vector in
@@ -110,7 +110,7 @@ one_place d r s m n e =
     same g = cc
 
 -- a root and a simple coroot have different places
-pub apart_places : (d : Roots) (r : ℤ) (i : ℕ) → IsNumber d r → IsSimpleIndex d.base i → basis_place d r ≢ coroot_place d i
+pub apart_places : (d : RootDatum) (r : ℤ) (i : ℕ) → IsNumber d r → IsSimpleIndex d.base i → basis_place d r ≢ coroot_place d i
 apart_places d r i m h e =
     let p = (root_place d r m).vector in
     let q = (coroot_at d i h).vector in

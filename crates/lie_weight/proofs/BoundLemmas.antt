@@ -5,7 +5,7 @@ use Rattle.std.specs.Ordering.{int_eq}
 use Rattle.std.proofs.lemmas.Bool.Decides.{Decides-int_eq}
 use Rattle.lie_datum.specs.Vectors.{plus, times}
 use Rattle.lie_datum.specs.RootDatum.{opposite}
-use Rattle.lie_datum.specs.RootList.{Roots, IsLoaded, IsNumber, root_of, IsRootVector, IsString}
+use Rattle.lie_datum.specs.RootList.{RootDatum, IsLoaded, IsNumber, root_of, IsRootVector, IsString}
 use Rattle.lie_datum.proofs.LoadedLaws.{second, opposite_root, short}
 use Rattle.lie_datum.proofs.Roots.{root_lengths}
 use Rattle.lie_datum.proofs.RunLemmas.{run_short, times_none}
@@ -13,13 +13,13 @@ use Rattle.lie_datum.proofs.SignedRoots.{root_is, number_is}
 use Rattle.lie_datum.proofs.Entries.{within_or_past}
 use Rattle.lie_datum.proofs.VectorLemmas.{abs_mul}
 use Rattle.lie_const.specs.StructureConstants.{Table, coeffs_of, IsSpecial, IsExtraspecial, extra, own, right, left, at_part, IsUnitValue, StandsFor, gap, norm}
-use Rattle.lie_const.specs.CommutatorTerms.{chain, value_at, IsPair}
+use Rattle.lie_const.specs.CommutatorTerms.{string_product, value_at, IsPair}
 use Rattle.lie_const.proofs.SumLemmas.{neg_number}
 use Rattle.lie_const.proofs.Decisions.{root_or, string_exists, extraspecial_exists}
 use Rattle.lie_const.proofs.Triples.{IsClosed, HoldsOn, every_pair}
 use Rattle.lie_weight.proofs.LineLemmas.{line, value-root, value-none, on_line-independent}
 
-module _ (d : Roots) (loaded : IsLoaded d) (n : Table) (stands : StandsFor d n) where
+module _ (d : RootDatum) (loaded : IsLoaded d) (n : Table) (stands : StandsFor d n) where
   -- r can be taken away from s at most three times
   string_short : (r s : ℤ) (p q : ℕ) → IsNumber d r → IsNumber d s → IsString d (root_of d r) (root_of d s) p q → p ≤ 3
   string_short r s p q a b h =
@@ -90,11 +90,11 @@ module _ (d : Roots) (loaded : IsLoaded d) (n : Table) (stands : StandsFor d n) 
         (λ f. subst (λ x. unsigned_abs x ≤ 4) (sym (value-none d loaded r s pair n k f)) (omega arith))
         (root_or d loaded (line (coeffs_of d r) (coeffs_of d s) k))
 
-    more : (k m : ℕ) → unsigned_abs (chain d n (coeffs_of d r) (coeffs_of d s) k) ≤ m → unsigned_abs (chain d n (coeffs_of d r) (coeffs_of d s) (suc k)) ≤ m * 4
-    more k m l = abs_mul (chain d n (coeffs_of d r) (coeffs_of d s) k) (value_at d n (coeffs_of d r) (line (coeffs_of d r) (coeffs_of d s) k)) m 4 l (step_small k)
+    more : (k m : ℕ) → unsigned_abs (string_product d n (coeffs_of d r) (coeffs_of d s) k) ≤ m → unsigned_abs (string_product d n (coeffs_of d r) (coeffs_of d s) (suc k)) ≤ m * 4
+    more k m l = abs_mul (string_product d n (coeffs_of d r) (coeffs_of d s) k) (value_at d n (coeffs_of d r) (line (coeffs_of d r) (coeffs_of d s) k)) m 4 l (step_small k)
 
-    -- a chain of at most three is at most 64
-    pub chain_small : (k : ℕ) → k ≤ 3 → unsigned_abs (chain d n (coeffs_of d r) (coeffs_of d s) k) ≤ 64
+    -- a string_product of at most three is at most 64
+    pub chain_small : (k : ℕ) → k ≤ 3 → unsigned_abs (string_product d n (coeffs_of d r) (coeffs_of d s) k) ≤ 64
     chain_small zero l = omega arith
     chain_small (suc zero) l = let a = more 0 1 (omega arith) in omega (arith, a)
     chain_small (suc (suc zero)) l = let a = more 1 4 (more 0 1 (omega arith)) in omega (arith, a)

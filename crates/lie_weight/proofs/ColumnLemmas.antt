@@ -5,10 +5,10 @@ use Rattle.std.proofs.lemmas.Bool.{cases_eq, eq-eqb, ne_eqb}
 use Rattle.std.proofs.lemmas.Bool.Decides.{Decides-int_eq}
 use Rattle.std.specs.Ordering.{int_eq}
 use Rattle.lie_datum.specs.Vectors.{plus, entry as coordinate}
-use Rattle.lie_datum.specs.RootList.{Roots, IsLoaded, IsNumber, root_of}
+use Rattle.lie_datum.specs.RootList.{RootDatum, IsLoaded, IsNumber, root_of}
 use Rattle.lie_datum.proofs.SignedRoots.{root_is, number_is}
 use Rattle.lie_const.specs.StructureConstants.{Table, coeffs_of, same_vector}
-use Rattle.lie_const.specs.CommutatorTerms.{chain, IsPair}
+use Rattle.lie_const.specs.CommutatorTerms.{string_product, IsPair}
 use Rattle.lie_const.specs.Adjoint.{BasisVector, RootVector, CorootVector, adjoint_dimension, basis_vector, basis_place, bracket}
 use Rattle.lie_const.proofs.Decisions.{root_or}
 use Rattle.lie_weight.proofs.NumberOf.{one_number, same_vector-yes, same_vector-no}
@@ -37,33 +37,33 @@ pub cond_none : (b : Bool) (x : ℤ) → x ≡ pos 0 → cond b x (pos 0) ≡ po
 cond_none true x e = e
 cond_none false x e = refl
 
-module _ (d : Roots) (loaded : IsLoaded d) (n : Table) (r s : ℤ) (pair : IsPair d r s) where
+module _ (d : RootDatum) (loaded : IsLoaded d) (n : Table) (r s : ℤ) (pair : IsPair d r s) where
   -- the coefficient in e_r^k e_s
   abbrev pub string_value : ℕ → BasisVector → ℤ
-  string_value k (RootVector t) = cond (same_vector (coeffs_of d t) (line (coeffs_of d r) (coeffs_of d s) k)) (chain d n (coeffs_of d r) (coeffs_of d s) k) (pos 0)
+  string_value k (RootVector t) = cond (same_vector (coeffs_of d t) (line (coeffs_of d r) (coeffs_of d s) k)) (string_product d n (coeffs_of d r) (coeffs_of d s) k) (pos 0)
   string_value k (CorootVector i) = pos 0
 
   -- it is 0 at each root that is not on the line
   pub string_off : (k i : ℕ) → i < adjoint_dimension d → ((t : ℤ) → IsRootPlace d i t → coeffs_of d t ≢ line (coeffs_of d r) (coeffs_of d s) k) → string_value k (basis_vector d i) ≡ pos 0
   string_off k i l f = ⊎_elim
-      (λ t. ap (string_value k) t.1.vector ∙ ap (λ b. cond b (chain d n (coeffs_of d r) (coeffs_of d s) k) (pos 0)) (same_vector-no (coeffs_of d t.0) (line (coeffs_of d r) (coeffs_of d s) k) (f t.0 t.1)))
+      (λ t. ap (string_value k) t.1.vector ∙ ap (λ b. cond b (string_product d n (coeffs_of d r) (coeffs_of d s) k) (pos 0)) (same_vector-no (coeffs_of d t.0) (line (coeffs_of d r) (coeffs_of d s) k) (f t.0 t.1)))
       (λ h. ap (string_value k) h.1.vector)
       (basis_cases d i l)
 
-  -- and the coefficient of the chain at the root that is
-  pub string_on : (k : ℕ) (u : ℤ) (a : IsNumber d u) → coeffs_of d u ≡ line (coeffs_of d r) (coeffs_of d s) k → string_value k (basis_vector d (basis_place d u)) ≡ chain d n (coeffs_of d r) (coeffs_of d s) k
-  string_on k u a e = ap (string_value k) (root_place d u a).vector ∙ ap (λ b. cond b (chain d n (coeffs_of d r) (coeffs_of d s) k) (pos 0)) (same_vector-yes (coeffs_of d u) (line (coeffs_of d r) (coeffs_of d s) k) e)
+  -- and the coefficient of the string_product at the root that is
+  pub string_on : (k : ℕ) (u : ℤ) (a : IsNumber d u) → coeffs_of d u ≡ line (coeffs_of d r) (coeffs_of d s) k → string_value k (basis_vector d (basis_place d u)) ≡ string_product d n (coeffs_of d r) (coeffs_of d s) k
+  string_on k u a e = ap (string_value k) (root_place d u a).vector ∙ ap (λ b. cond b (string_product d n (coeffs_of d r) (coeffs_of d s) k) (pos 0)) (same_vector-yes (coeffs_of d u) (line (coeffs_of d r) (coeffs_of d s) k) e)
 
   -- places with one root on the line are one
   pub on_one : (k i : ℕ) (u : ℤ) → IsNumber d u → coeffs_of d u ≡ line (coeffs_of d r) (coeffs_of d s) k → i ≢ basis_place d u → (t : ℤ) → IsRootPlace d i t → coeffs_of d t ≢ line (coeffs_of d r) (coeffs_of d s) k
   on_one k i u a e o t p q = o (p.place ∙ ap (basis_place d) (one_number d loaded t u p.number a (q ∙ sym e)))
 
   -- e_r on a root of the line
-  string_more : (k i : ℕ) (u : ℤ) → i < adjoint_dimension d → IsNumber d u → coeffs_of d u ≡ line (coeffs_of d r) (coeffs_of d s) k → bracket d n r (basis_vector d i) (RootVector u) *ℤ chain d n (coeffs_of d r) (coeffs_of d s) k ≡ string_value (suc k) (basis_vector d i)
+  string_more : (k i : ℕ) (u : ℤ) → i < adjoint_dimension d → IsNumber d u → coeffs_of d u ≡ line (coeffs_of d r) (coeffs_of d s) k → bracket d n r (basis_vector d i) (RootVector u) *ℤ string_product d n (coeffs_of d r) (coeffs_of d s) k ≡ string_value (suc k) (basis_vector d i)
   string_more k i u l a e =
       let R = coeffs_of d r in
       let S = coeffs_of d s in
-      let c = chain d n R S k in
+      let c = string_product d n R S k in
       ⊎_elim
       (λ t. ap (λ b. bracket d n r b (RootVector u) *ℤ c) t.1.vector
       ∙ ap (λ v. cond (same_vector (coeffs_of d t.0) (plus R v)) (n r u) (pos 0) *ℤ c) e
@@ -99,7 +99,7 @@ module _ (d : Roots) (loaded : IsLoaded d) (n : Table) (r s : ℤ) (pair : IsPai
       (λ f. (let none = value-none d loaded r s pair n k f in
       power-zero d n r k j w (λ p m. string_column k p m ∙ string_off k p m (λ t q e. f (root_of d t, root_is d loaded t q.number, e))) i l
       ∙ sym (⊎_elim
-      (λ t. ap (string_value (suc k)) t.1.vector ∙ cond_none (same_vector (coeffs_of d t.0) (line R S (suc k))) (chain d n R S (suc k)) (ap (λ x. chain d n R S k *ℤ x) none ∙ *ℤ-zero (chain d n R S k)))
+      (λ t. ap (string_value (suc k)) t.1.vector ∙ cond_none (same_vector (coeffs_of d t.0) (line R S (suc k))) (string_product d n R S (suc k)) (ap (λ x. string_product d n R S k *ℤ x) none ∙ *ℤ-zero (string_product d n R S k)))
       (λ h. ap (string_value (suc k)) h.1.vector)
       (basis_cases d i l))))
       (root_or d loaded (line R S k))

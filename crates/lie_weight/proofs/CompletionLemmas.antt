@@ -7,7 +7,7 @@ use Rattle.lie_ring.specs.Powers.{power}
 use Rattle.lie_ring.specs.Matrices.{Matrix, table, entry, product, scaled, zero_matrix}
 use Rattle.lie_datum.specs.Numbers.{place}
 use Rattle.lie_datum.specs.RootDatum.{rank, reflected, IsSimpleIndex}
-use Rattle.lie_datum.specs.RootList.{Roots, root_of, height, IsNumber, IsLoaded}
+use Rattle.lie_datum.specs.RootList.{RootDatum, root_of, height, IsNumber, IsLoaded}
 use Rattle.lie_datum.proofs.Entries.{within_or_past}
 use Rattle.lie_datum.proofs.SignedRoots.{same_number}
 use Rattle.lie_datum.proofs.NumberLemmas.{place_within}
@@ -25,7 +25,7 @@ use Rattle.lie_weight.proofs.FactorLemmas.{zero_not_huge, work_zero, conjugate_z
 use Rattle.lie_weight.proofs.DraftLemmas.{number_cases, powers_other, first_same, written_single, single_zero}
 
 -- ---- a root is lowered in one way
-module _ (d : Roots) (loaded : IsLoaded d) (r : ℤ) where
+module _ (d : RootDatum) (loaded : IsLoaded d) (r : ℤ) where
   lowered_height : (i : ℕ) (s : ℤ) → IsLowering d i r s → absolute_height d s ≡ reflected_height d i r
   lowered_height i s l = ap (λ t. unsigned_abs (height t)) l.root
 
@@ -114,7 +114,7 @@ module _ (v w : Module) (same : w.weights ≡ v.weights) where
         ap (λ A. work_on A (divided_power w s k)) absolute_weyl_same ∙ ap (work_on (absolute_weyl v i)) (power_same s k l b)
 
 -- ---- the search for the index that lowers a root
-module _ (d : Roots) (loaded : IsLoaded d) (r : ℤ) (number : IsNumber d r) where
+module _ (d : RootDatum) (loaded : IsLoaded d) (r : ℤ) (number : IsNumber d r) where
   pub not_lowered : (n : ℕ) → rank d.base ≤ n → ((j : ℕ) → IsSimpleIndex d.base j → j ≤ n → absolute_height d r ≤ reflected_height d j r) → (i : ℕ) (s : ℤ) → ¬ IsLowering d i r s
   not_lowered n l h i s a = let k = h i a.index (let q = a.index.1 in omega (arith, q, l)) in let m = a.lower in absurd (omega (arith, k, m))
 
@@ -137,13 +137,13 @@ module _ (d : Roots) (loaded : IsLoaded d) (r : ℤ) (number : IsNumber d r) whe
   }
 
 -- ---- one root is completed
-past_simple : (d : Roots) (r : ℤ) → rank d.base < unsigned_abs r → (i : ℕ) → IsSimpleIndex d.base i → pos i ≢ r
+past_simple : (d : RootDatum) (r : ℤ) → rank d.base < unsigned_abs r → (i : ℕ) → IsSimpleIndex d.base i → pos i ≢ r
 past_simple d r l i s e = let h = ap unsigned_abs e in let k = s.1 in absurd (omega (arith, h, k, l))
 
-past_negative : (d : Roots) (r : ℤ) → rank d.base < unsigned_abs r → (i : ℕ) → IsSimpleIndex d.base i → neg_ℤ (pos i) ≢ r
+past_negative : (d : RootDatum) (r : ℤ) → rank d.base < unsigned_abs r → (i : ℕ) → IsSimpleIndex d.base i → neg_ℤ (pos i) ≢ r
 past_negative d r l i s e = let h = ap unsigned_abs e in let k = s.1 in let m = abs_neg (pos i) in absurd (omega (arith, h, k, l, m))
 
-steps_agree : (d : Roots) (v w : Module) → w.weights ≡ v.weights → (q : ℤ) → AgreeAt v w q → StepsBy d v q → StepsBy d w q
+steps_agree : (d : RootDatum) (v w : Module) → w.weights ≡ v.weights → (q : ℤ) → AgreeAt v w q → StepsBy d v q → StepsBy d w q
 steps_agree d v w same q e s = record {
   first = power_same' q 1 (omega arith) e ∙ s.first ∙ ap (λ ws. step_matrix d ws q) (sym same);
   others = λ k l. power_same' q k (omega (arith, l)) e ∙ s.others k l ∙ ap (λ n. zero_matrix (pos 0) n n) (sym (ap length same));
@@ -154,7 +154,7 @@ steps_agree d v w same q e s = record {
     power_same' p (suc k) l e = ap (λ n. get_or (divided_powers w p) k (zero_matrix (pos 0) n n)) (ap length same) ∙ ap (λ Ms. get_or Ms k (zero_matrix (pos 0) (dimension v) (dimension v))) e
 
 -- the factors stay where the matrices of the simple roots do
-module _ (d : Roots) (loaded : IsLoaded d) (v : Module) (single : IsSingle d v) (r : ℤ) (number : IsNumber d r) (past : rank d.base < unsigned_abs r) (Ms : List (Matrix ℤ)) where
+module _ (d : RootDatum) (loaded : IsLoaded d) (v : Module) (single : IsSingle d v) (r : ℤ) (number : IsNumber d r) (past : rank d.base < unsigned_abs r) (Ms : List (Matrix ℤ)) where
   abbrev u : Module
   u = with_powers v r Ms
 
@@ -254,7 +254,7 @@ module _ (d : Roots) (loaded : IsLoaded d) (v : Module) (single : IsSingle d v) 
     }
 
 -- a root that no simple reflection lowers
-pub partly_none : (d : Roots) (eta : Signs) (v : Module) (r : ℤ) → IsNumber d r → ((i : ℕ) (s : ℤ) → ¬ IsLowering d i r s) → IsPartly d eta (absolute_height d r) (place (length d.positive) r) v → IsPartly d eta (absolute_height d r) (place (length d.positive) r + 1) v
+pub partly_none : (d : RootDatum) (eta : Signs) (v : Module) (r : ℤ) → IsNumber d r → ((i : ℕ) (s : ℤ) → ¬ IsLowering d i r s) → IsPartly d eta (absolute_height d r) (place (length d.positive) r) v → IsPartly d eta (absolute_height d r) (place (length d.positive) r + 1) v
 partly_none d eta v r number none p = record {
   steps = p.steps;
   single = p.single;
@@ -266,7 +266,7 @@ partly_none d eta v r number none p = record {
     old q o b = ⊎_elim (λ h. inl h) (λ h. inr (h.0, (let m = h.1 in omega (arith, m, o)))) b
 
 -- a root whose work is huge is the first
-pub first_huge : (d : Roots) (eta : Signs) (v : Module) (r : ℤ) (i : ℕ) (s : ℤ) → IsLowering d i r s → IsHugeMatrix (work v i s 1) → IsPartly d eta (absolute_height d r) (place (length d.positive) r) v → HasSteps d v × IsCompletedBelow d eta v (absolute_height d r) × IsFirstHuge d v r 1
+pub first_huge : (d : RootDatum) (eta : Signs) (v : Module) (r : ℤ) (i : ℕ) (s : ℤ) → IsLowering d i r s → IsHugeMatrix (work v i s 1) → IsPartly d eta (absolute_height d r) (place (length d.positive) r) v → HasSteps d v × IsCompletedBelow d eta v (absolute_height d r) × IsFirstHuge d v r 1
 first_huge d eta v r i s l huge p = (
   p.steps,
   (λ q low j t k a one. p.completed q a.from (inl low) j t k a one),
@@ -277,7 +277,7 @@ first_huge d eta v r i s l huge p = (
 )
 
 -- ---- the order in which the roots are completed
-module _ (d : Roots) (eta : Signs) where
+module _ (d : RootDatum) (eta : Signs) where
   pub partly_at : (h p : ℕ) (v : Module) (r : ℤ) → absolute_height d r ≡ h → place (length d.positive) r ≡ p → IsPartly d eta h p v → IsPartly d eta (absolute_height d r) (place (length d.positive) r) v
   partly_at h p v r e f a = subst (λ (x : ℕ). IsPartly d eta x (place (length d.positive) r) v) (sym e) (subst (λ (y : ℕ). IsPartly d eta h y v) (sym f) a)
 

@@ -6,7 +6,7 @@ use Rattle.std.specs.List.{All}
 use Rattle.lie_ring.specs.Matrices.{Matrix, table, entry, zero_matrix}
 use Rattle.lie_datum.specs.Vectors.{Vector}
 use Rattle.lie_datum.specs.Numbers.{place}
-use Rattle.lie_datum.specs.RootList.{Roots, IsNumber}
+use Rattle.lie_datum.specs.RootList.{RootDatum, IsNumber}
 use Rattle.lie_datum.proofs.NumberLemmas.{place_within}
 use Rattle.lie_datum.proofs.SignedRoots.{same_place}
 use Rattle.lie_const.specs.Modules.{Module, dimension, divided_powers, divided_power, top}
@@ -19,7 +19,7 @@ all_empty n zero i z l = absurd (omega (arith, l))
 all_empty n (suc k) zero z l = record { few = omega arith; squares = λ j y m. absurd (omega (arith, m)) }
 all_empty n (suc k) (suc i) z l = all_empty n k i z (omega (arith, l))
 
-pub bare_single : (d : Roots) (positive : ℕ) (ws : List Vector) → positive ≡ length d.positive → IsSingle d (record { positive = positive; weights = ws; powers = replicate (2 * positive) [] })
+pub bare_single : (d : RootDatum) (positive : ℕ) (ws : List Vector) → positive ≡ length d.positive → IsSingle d (record { positive = positive; weights = ws; powers = replicate (2 * positive) [] })
 bare_single d positive ws e = record {
   shape = record {
     positive = e;
@@ -36,13 +36,13 @@ bare_single d positive ws e = record {
 
 -- ---- one root is written
 -- the same number, or another place
-pub number_cases : (d : Roots) (q r : ℤ) → IsNumber d q → IsNumber d r → (q ≡ r) ⊎ (place (length d.positive) q ≢ place (length d.positive) r)
+pub number_cases : (d : RootDatum) (q r : ℤ) → IsNumber d q → IsNumber d r → (q ≡ r) ⊎ (place (length d.positive) q ≢ place (length d.positive) r)
 number_cases d q r n m = ⊎_elim (λ e. inl (same_place (length d.positive) q r (place_within d q n) (place_within d r m) e)) (λ e. inr e) (cases_eq (place (length d.positive) q) (place (length d.positive) r))
 
 pub written : (a now : Module) (p : ℕ) (r : ℤ) (Ms : List (Matrix ℤ)) → a ≡ now → p ≡ place now.positive r → ◌≡◌ {A = Module} (record { positive = a.positive; weights = a.weights; powers = set a.powers p Ms }) (with_powers now r Ms)
 written a now p r Ms e f = ap (λ (b : Module). record { positive = b.positive; weights = b.weights; powers = set b.powers p Ms }) e ∙ ap (λ (t : ℕ). record { positive = now.positive; weights = now.weights; powers = set now.powers t Ms }) f
 
-module _ (d : Roots) (v : Module) (s : IsSingle d v) (r : ℤ) (number : IsNumber d r) (Ms : List (Matrix ℤ)) where
+module _ (d : RootDatum) (v : Module) (s : IsSingle d v) (r : ℤ) (number : IsNumber d r) (Ms : List (Matrix ℤ)) where
   abbrev w : Module
   w = with_powers v r Ms
 

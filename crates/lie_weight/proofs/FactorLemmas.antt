@@ -212,13 +212,13 @@ module _ (n : ℕ) (few : n ≤ 300) (M L : Matrix ℤ) (up : IsStepping n M) (d
 
 -- ---- products of steps are never too wide
 -- 1 or -1
-abbrev pub IsUnit : ℤ → Type 0
-IsUnit c = (c ≡ pos 1) ⊎ (c ≡ negsuc 0)
+abbrev pub IsSign : ℤ → Type 0
+IsSign c = (c ≡ pos 1) ⊎ (c ≡ negsuc 0)
 
-pub unit_below : (n : ℕ) (M : Matrix ℤ) → IsStepping n M → (c : ℤ) → IsUnit c → IsBelow n (one_plus c M) (one_plus (pos 1) M)
+pub unit_below : (n : ℕ) (M : Matrix ℤ) → IsStepping n M → (c : ℤ) → IsSign c → IsBelow n (one_plus c M) (one_plus (pos 1) M)
 unit_below n M step c u = ⊎_elim (λ e. subst (λ t. IsBelow n (one_plus t M) (one_plus (pos 1) M)) (sym e) (below_itself n (one_plus (pos 1) M))) (λ e. subst (λ t. IsBelow n (one_plus t M) (one_plus (pos 1) M)) (sym e) (one_less_below n M step)) u
 
-module _ (n : ℕ) (few : n ≤ 300) (M L : Matrix ℤ) (up : IsStepping n M) (down : IsStepping n L) (p q : ℤ) (up_unit : IsUnit p) (down_unit : IsUnit q) (P Q : Matrix ℤ) (isP : P ≡ one_plus p M) (isQ : Q ≡ one_plus q L) where
+module _ (n : ℕ) (few : n ≤ 300) (M L : Matrix ℤ) (up : IsStepping n M) (down : IsStepping n L) (p q : ℤ) (up_unit : IsSign p) (down_unit : IsSign q) (P Q : Matrix ℤ) (isP : P ≡ one_plus p M) (isQ : Q ≡ one_plus q L) where
   pub steps_inner : ¬ IsWideProduct integers Q P
   steps_inner = subst (λ t. ¬ IsWideProduct integers t P) (sym isQ) (subst (λ t. ¬ IsWideProduct integers (one_plus q L) t) (sym isP)
       (inner_narrow n few (one_plus (pos 1) M) (one_plus (pos 1) L) (one_plus p M) (one_plus q L) (one_plus-size n M up (pos 1)) (one_plus-size n L down (pos 1)) (one_plus-size n M up p) (one_plus-size n L down q)

@@ -7,12 +7,12 @@ use Rattle.lie_ring.specs.Integers.{integers}
 use Rattle.lie_ring.specs.Matrices.{Matrix, with_entry, AllFit}
 use Rattle.lie_datum.specs.Vectors.{pairing, entry as coordinate}
 use Rattle.lie_datum.specs.RootDatum.{rank, vector, simple_coroot, IsSimpleIndex}
-use Rattle.lie_datum.specs.RootList.{Roots, IsLoaded, IsNumber, root_of}
+use Rattle.lie_datum.specs.RootList.{RootDatum, IsLoaded, IsNumber, root_of}
 use Rattle.lie_datum.proofs.ClosureLemmas.{in_from_contains, contains_from_in}
 use Rattle.lie_datum.proofs.SignedRoots.{root_is}
 use Rattle.lie_const.specs.declared.term.Term.{Term}
 use Rattle.lie_const.specs.StructureConstants.{Table, StandsFor, coeffs_of}
-use Rattle.lie_const.specs.CommutatorTerms.{chain, factorial, IsPair, AreTerms}
+use Rattle.lie_const.specs.CommutatorTerms.{string_product, factorial, IsPair, AreTerms}
 use Rattle.lie_const.specs.Adjoint.{RootVector, adjoint_dimension, basis_place, bracket}
 use Rattle.lie_weight.specs.AdjointParts.{coroot_place, power_entry, IsDivided, IsPartial}
 use Rattle.lie_weight.specs.Terms.{IsTermHere, HasNoTerm}
@@ -45,7 +45,7 @@ factorial_positive (suc (suc zero)) l = omega arith
 factorial_positive (suc (suc (suc zero))) l = omega arith
 factorial_positive (suc (suc (suc (suc k)))) l = absurd (omega arith)
 
-module _ (d : Roots) (n : Table) (r : ℤ) (k : ℕ) (M M' : Matrix ℤ) (row col row' col' : ℕ) (e : ℤ) where
+module _ (d : RootDatum) (n : Table) (r : ℤ) (k : ℕ) (M M' : Matrix ℤ) (row col row' col' : ℕ) (e : ℤ) where
   -- the only entry of a column is written
   pub set_one : row ≡ row' → col ≡ col' → M' ≡ with_entry (pos 0) M row col e → (AllFit integers M → AllFit integers M') → IsPartial d n r k M col' 0 → col' < adjoint_dimension d → row' < adjoint_dimension d →
       IsDivided d n r k e row' col' → ((i : ℕ) → i < adjoint_dimension d → i ≢ row' → power_entry d n r k i col' ≡ pos 0) → IsPartial d n r k M' (col' + 1) 0
@@ -60,7 +60,7 @@ module _ (d : Roots) (n : Table) (r : ℤ) (k : ℕ) (M M' : Matrix ℤ) (row co
       let same = q ∙ ap₂ (λ s t. with_entry (pos 0) M s t e) a b in
       subst (λ N. IsPartial d n r k N col' (row' + 1)) (sym same) (written d n r k M col' row' e p w x v (subst (AllFit integers) same (f p.fit)))
 
-module _ (d : Roots) (loaded : IsLoaded d) (n : Table) (r : ℤ) (number : IsNumber d r) where
+module _ (d : RootDatum) (loaded : IsLoaded d) (n : Table) (r : ℤ) (number : IsNumber d r) where
   -- the column of h_i has one entry, -<r, a_i^>
   pub coroot_divided : (i : ℕ) → IsSimpleIndex d.base i → (e : ℤ) → e ≡ neg_ℤ (pairing (vector d.base (root_of d r)) (simple_coroot d.base i)) → IsDivided d n r 1 e (basis_place d r) (coroot_place d i)
   coroot_divided i h e q = one_times e ∙ q ∙ sym (coroot_on d loaded n r number i h) ∙ sym (coroot_column-first d loaded n r number i h (basis_place d r) (root_within d r number))
@@ -103,13 +103,13 @@ module _ (d : Roots) (loaded : IsLoaded d) (n : Table) (r : ℤ) (number : IsNum
   pub second_zero : (j : ℕ) → j < adjoint_dimension d → j ≢ basis_place d r → power_entry d n r 2 j (basis_place d (neg_ℤ r)) ≡ pos 0
   second_zero j l o = opposite_column-second_off d loaded n r number j l o
 
-module _ (d : Roots) (loaded : IsLoaded d) (n : Table) (stands : StandsFor d n) (r s : ℤ) (pair : IsPair d r s) (ts : List Term) (terms : AreTerms d n r s ts) (k : ℕ) (first : 1 ≤ k) (last : k ≤ 3) where
+module _ (d : RootDatum) (loaded : IsLoaded d) (n : Table) (stands : StandsFor d n) (r s : ℤ) (pair : IsPair d r s) (ts : List Term) (terms : AreTerms d n r s ts) (k : ℕ) (first : 1 ≤ k) (last : k ≤ 3) where
   -- a term (k, 1) that was found
   pub found : (t : Term) → IsTermHere ts k t → IsTermOf d loaded n r s ts terms k t
   found t h = term_found d loaded n r s ts terms k t (in_from_contains ts t h.0) h.1 h.2
 
   pub found_small : (t : Term) → IsTermHere ts k t → unsigned_abs t.value ≤ 64
-  found_small t h = divided_small (factorial k) 64 t.value (chain d n (coeffs_of d r) (coeffs_of d s) k) (factorial_positive k last) (found t h).value (chain_small d loaded n stands r s pair k last)
+  found_small t h = divided_small (factorial k) 64 t.value (string_product d n (coeffs_of d r) (coeffs_of d s) k) (factorial_positive k last) (found t h).value (chain_small d loaded n stands r s pair k last)
 
   pub found_divided : (t : Term) → IsTermHere ts k t → (e : ℤ) → e ≡ t.value → IsDivided d n r k e (basis_place d t.root) (basis_place d s)
   found_divided t h e q =

@@ -4,7 +4,7 @@ use Rattle.std.specs.List.{Contains}
 use Rattle.std.proofs.lemmas.List.{get_or_append_left, get_or-append-add, get_or_default}
 use Rattle.lie_datum.specs.Vectors.{Vector, pairing, times, entry}
 use Rattle.lie_datum.specs.RootDatum.{IsSimpleIndex, IsWithin, simple_root, simple_coroot, covector}
-use Rattle.lie_datum.specs.RootList.{Roots, IsLoaded}
+use Rattle.lie_datum.specs.RootList.{RootDatum, IsLoaded}
 use Rattle.lie_datum.proofs.Entries.{within_or_past, entry-plus, entry-times}
 use Rattle.lie_datum.proofs.VectorLemmas.{entry_within, abs_add, abs_mul, abs_neg}
 use Rattle.lie_datum.proofs.ClosureLemmas.{in_from_contains, contains_from_in, in_one, in_at, in_last}
@@ -46,7 +46,7 @@ distinct_push ws y h n j k z lt inside e =
 pub first_push : (ws : List Vector) (y : Vector) → 1 ≤ length ws → first_weight (ws ++ y ∷ []) ≡ first_weight ws
 first_push ws y l = get_or_append_left ws (y ∷ []) [] 0 l
 
-pub IsGrowing-push : (d : Roots) (ws : List Vector) (y : Vector) → IsGrowing d ws → IsReached d (first_weight ws) y → IsWithin (100 + 100 * length ws) y → ¬ Contains ws y → length ws < 1025 → IsGrowing d (ws ++ y ∷ [])
+pub IsGrowing-push : (d : RootDatum) (ws : List Vector) (y : Vector) → IsGrowing d ws → IsReached d (first_weight ws) y → IsWithin (100 + 100 * length ws) y → ¬ Contains ws y → length ws < 1025 → IsGrowing d (ws ++ y ∷ [])
 IsGrowing-push d ws y g r w n l =
     let first = sym (first_push ws y g.some) in
     record {
@@ -59,7 +59,7 @@ IsGrowing-push d ws y g r w n l =
     }
 
 -- ---- images
-module _ (d : Roots) (loaded : IsLoaded d) where
+module _ (d : RootDatum) (loaded : IsLoaded d) where
   -- the image of a minuscule weight is not far from it
   pub image_within : (m i : ℕ) (x : Vector) → IsSimpleIndex d.base i → IsMinuscule d x → IsWithin m x → IsWithin (m + 100) (reflected_weight d i x)
   image_within m i x s light small =
@@ -87,7 +87,7 @@ module _ (d : Roots) (loaded : IsLoaded d) where
       let near : IsWithin (100 + 100 * length ws) y = subst (IsWithin (100 + 100 * length ws)) (sym e) (within_more (100 + 100 * at + 100) (100 + 100 * length ws) (reflected_weight d i x) (omega (arith, l)) (image_within (100 + 100 * at) i x s (member_light ws at z g l) (g.small at z l))) in
       IsGrowing-push d ws y g r near n room
 
-pub HasImage-append : (d : Roots) (ws zs : List Vector) (k i : ℕ) → k < length ws → HasImage d ws k i → HasImage d (ws ++ zs) k i
+pub HasImage-append : (d : RootDatum) (ws zs : List Vector) (k i : ℕ) → k < length ws → HasImage d ws k i → HasImage d (ws ++ zs) k i
 HasImage-append d ws zs k i l h z = subst (λ t. Contains (ws ++ zs) (reflected_weight d i t)) (sym (get_or_append_left ws zs z k l)) (contains_from_in (ws ++ zs) (reflected_weight d i (get_or ws k z)) (in_front ws zs (reflected_weight d i (get_or ws k z)) (in_from_contains ws (reflected_weight d i (get_or ws k z)) (h z))))
   where
     in_front : (ws zs : List Vector) (x : Vector) → In x ws → In x (ws ++ zs)
@@ -95,14 +95,14 @@ HasImage-append d ws zs k i l h z = subst (λ t. Contains (ws ++ zs) (reflected_
     in_front (y ∷ ws) zs x (here e) = here e
     in_front (y ∷ ws) zs x (there p) = there (in_front ws zs x p)
 
-pub HasImage-kept : (d : Roots) (ws ys : List Vector) (k i : ℕ) → k < length ws → StartsWith ys ws → HasImage d ws k i → HasImage d ys k i
+pub HasImage-kept : (d : RootDatum) (ws ys : List Vector) (k i : ℕ) → k < length ws → StartsWith ys ws → HasImage d ws k i → HasImage d ys k i
 HasImage-kept d ws ys k i l s h = subst (λ t. HasImage d t k i) (sym s.1) (HasImage-append d ws s.0 k i l h)
 
 -- the image was there, or is pushed
-pub HasImage_there : (d : Roots) (ws : List Vector) (k i : ℕ) (y z : Vector) → k < length ws → y ≡ reflected_weight d i (get_or ws k z) → Contains ws y → HasImage d ws k i
+pub HasImage_there : (d : RootDatum) (ws : List Vector) (k i : ℕ) (y z : Vector) → k < length ws → y ≡ reflected_weight d i (get_or ws k z) → Contains ws y → HasImage d ws k i
 HasImage_there d ws k i y z l e c z' = subst (Contains ws) (e ∙ ap (reflected_weight d i) (get_or_default ws k z z' l)) c
 
-pub HasImage_pushed : (d : Roots) (ws : List Vector) (k i : ℕ) (y z : Vector) → k < length ws → y ≡ reflected_weight d i (get_or ws k z) → HasImage d (ws ++ y ∷ []) k i
+pub HasImage_pushed : (d : RootDatum) (ws : List Vector) (k i : ℕ) (y z : Vector) → k < length ws → y ≡ reflected_weight d i (get_or ws k z) → HasImage d (ws ++ y ∷ []) k i
 HasImage_pushed d ws k i y z l e z' =
     subst (Contains (ws ++ y ∷ [])) (e ∙ ap (reflected_weight d i) (get_or_default ws k z z' l ∙ sym (get_or_append_left ws (y ∷ []) z' k l))) (contains_from_in (ws ++ y ∷ []) y (in_last ws y))
 
@@ -122,13 +122,13 @@ up_to (suc (suc j)) zero l = absurd (omega arith)
 up_to (suc j) (suc i) l = ⊎_elim (λ h. inl (omega (arith, h))) (λ h. inr (omega (arith, h))) (up_to j i (omega (arith, l)))
 
 -- the images of one weight under one reflection more
-pub next_image : (d : Roots) (ws ys : List Vector) (at i : ℕ) → at < length ws → StartsWith ys ws → (length ws < 1025 → (j : ℕ) → 1 ≤ j → j ≤ i → HasImage d ws at j) → (length ys < 1025 → HasImage d ys at (i + 1)) → length ys < 1025 → (j : ℕ) → 1 ≤ j → j ≤ i + 1 → HasImage d ys at j
+pub next_image : (d : RootDatum) (ws ys : List Vector) (at i : ℕ) → at < length ws → StartsWith ys ws → (length ws < 1025 → (j : ℕ) → 1 ≤ j → j ≤ i → HasImage d ws at j) → (length ys < 1025 → HasImage d ys at (i + 1)) → length ys < 1025 → (j : ℕ) → 1 ≤ j → j ≤ i + 1 → HasImage d ys at j
 next_image d ws ys at i l s h k room j one le =
     let long = StartsWith-length ws ys s in
     ⊎_elim (λ m. HasImage-kept d ws ys at j l s (h (omega (arith, room, long)) j one m)) (λ e. subst (λ t. HasImage d ys at t) (sym e) (k room)) (up_to j i le)
 
 -- the images of one weight more
-pub next_weight : (d : Roots) (ws ys : List Vector) (at : ℕ) → at < length ws → StartsWith ys ws → (length ws < 1025 → (k : ℕ) → k < at → HasImages d ws k) → (length ys < 1025 → HasImages d ys at) → length ys < 1025 → (k : ℕ) → k < at + 1 → HasImages d ys k
+pub next_weight : (d : RootDatum) (ws ys : List Vector) (at : ℕ) → at < length ws → StartsWith ys ws → (length ws < 1025 → (k : ℕ) → k < at → HasImages d ws k) → (length ys < 1025 → HasImages d ys at) → length ys < 1025 → (k : ℕ) → k < at + 1 → HasImages d ys k
 next_weight d ws ys at l s h n room k lt =
     let long = StartsWith-length ws ys s in
     ⊎_elim (λ m i p. HasImage-kept d ws ys k i (omega (arith, m, l)) s (h (omega (arith, room, long)) k m i p)) (λ e. subst (λ t. HasImages d ys t) (sym e) (n room)) (up_below k at lt)
@@ -140,7 +140,7 @@ next_weight d ws ys at l s h n room k lt =
     up_below (suc k) (suc at) l = ⊎_elim (λ h. inl (omega (arith, h))) (λ h. inr (omega (arith, h))) (up_below k at (omega (arith, l)))
 
 -- a list that holds the images of its members holds the orbit
-pub grown_whole : (d : Roots) (ws : List Vector) → IsGrowing d ws → ((k : ℕ) → k < length ws → HasImages d ws k) → (x : Vector) → IsReached d (first_weight ws) x → Contains ws x
+pub grown_whole : (d : RootDatum) (ws : List Vector) → IsGrowing d ws → ((k : ℕ) → k < length ws → HasImages d ws k) → (x : Vector) → IsReached d (first_weight ws) x → Contains ws x
 grown_whole d ws g h _ start = (0, g.some, get_or_default ws 0 (first_weight ws) [] g.some)
 grown_whole d ws g h _ (next i x s p) =
     let k = grown_whole d ws g h x p in
@@ -151,7 +151,7 @@ pub first_inserted : (test : Vector → Vector → Bool) (ks : List Vector) (w :
 first_inserted test [] w e = refl
 first_inserted test (k ∷ ks) w e = absurd (omega (arith, e))
 
-pub grown_start : (d : Roots) (w : Vector) → IsMinuscule d w → IsWithin 100 w → IsGrowing d (w ∷ [])
+pub grown_start : (d : RootDatum) (w : Vector) → IsMinuscule d w → IsWithin 100 w → IsGrowing d (w ∷ [])
 grown_start d w light small = record {
   some = omega arith;
   light = light;

@@ -6,7 +6,7 @@ use Rattle.std.specs.Ordering.{int_cmp, is_eq}
 use Rattle.lie_base.proofs.RingSolver.{ring, var, num, neg, ◌⊕◌, ◌⊗◌}
 use Rattle.lie_datum.specs.Vectors.{Vector, pairing, plus, times, minus, combination, entry}
 use Rattle.lie_datum.specs.RootDatum.{covector, root_pairing, opposite}
-use Rattle.lie_datum.specs.RootList.{Roots, IsLoaded, IsNumber, root_of, IsRootVector}
+use Rattle.lie_datum.specs.RootList.{RootDatum, IsLoaded, IsNumber, root_of, IsRootVector}
 use Rattle.lie_datum.proofs.Entries.{entry-plus, entry-times, length-plus, length-times, same_entries}
 use Rattle.lie_datum.proofs.Linear.{pairing-combination, pairing-times}
 use Rattle.lie_datum.proofs.LoadedLaws.{self, second_product}
@@ -31,7 +31,7 @@ too_large a b c h e f =
     let four : pos 4 ≤ℤ pos 3 = subst (λ t. t ≤ℤ pos 3) product h in
     absurd (omega (arith, ints, four))
 
-module _ (d : Roots) (loaded : IsLoaded d) where
+module _ (d : RootDatum) (loaded : IsLoaded d) where
   -- a root that is a multiple of a root is that root or its opposite
   pub multiple : (r s : ℤ) (c : ℤ) → IsNumber d r → IsNumber d s → coeffs_of d s ≡ times c (coeffs_of d r) → s ≢ r → s ≢ neg_ℤ r → ⊥
   multiple r s c m n e o p =

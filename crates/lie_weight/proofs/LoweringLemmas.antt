@@ -7,10 +7,10 @@ use Rattle.lie_base.proofs.RingSolver.{ring, var, neg, num, ◌⊕◌, ◌⊗◌
 use Rattle.lie_datum.specs.declared.root_pair.Root.{Root}
 use Rattle.lie_datum.specs.Vectors.{Vector, pairing, plus, times, minus, unit, combination, total, entry}
 use Rattle.lie_datum.specs.RootDatum.{rank, simple, simple_root, simple_coroot, vector, covector, opposite, reflected, IsRoot, is_simple, is_reflected, IsPositive, IsSimpleIndex}
-use Rattle.lie_datum.specs.RootList.{Roots, root_of, IsNumber, IsLoaded, height, form, length2, all_roots}
+use Rattle.lie_datum.specs.RootList.{RootDatum, root_of, IsNumber, IsLoaded, height, form, length2, all_roots}
 use Rattle.lie_datum.proofs.Entries.{within_or_past}
 use Rattle.lie_datum.proofs.Linear.{pairing-plus, pairing-times, pairing-combination}
-use Rattle.lie_datum.proofs.FirstLaw.{form_linear}
+use Rattle.lie_datum.proofs.FormLaw.{form_linear}
 use Rattle.lie_datum.proofs.NormBound.{length_positive}
 use Rattle.lie_datum.proofs.HeightLemmas.{total-plus, height_positive, number_is_positive, entries_not_negative}
 use Rattle.lie_datum.proofs.LoadedLaws.{short, first}
@@ -43,7 +43,7 @@ total-times : (k : ℤ) (x : Vector) → total (λ c. c) (times k x) ≡ k *ℤ 
 total-times k [] = ring (k ∷ []) (num (pos 0)) (var 0 ⊗ num (pos 0)) refl
 total-times k (a ∷ x) = ap (λ t. k *ℤ a +ℤ t) (total-times k x) ∙ sym (mul-add k a (total (λ c. c) x))
 
-module _ (d : Roots) (loaded : IsLoaded d) where
+module _ (d : RootDatum) (loaded : IsLoaded d) where
   -- ---- the form
   form_nothing : (x : Vector) (rs : List Root) → total (λ s. pairing x (covector d.base s) *ℤ pairing [] (covector d.base s)) rs ≡ pos 0
   form_nothing x [] = refl

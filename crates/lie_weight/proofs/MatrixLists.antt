@@ -6,7 +6,7 @@ use Rattle.std.proofs.lemmas.List.{get_or_append_left, get_or-append-add, get_or
 use Rattle.std.proofs.lemmas.List.Elements.{All-from_get_or}
 use Rattle.lie_ring.specs.Matrices.{Matrix, entry, zero_matrix}
 use Rattle.lie_ring.specs.MatrixLemmas.{entry-table}
-use Rattle.lie_datum.specs.RootList.{Roots, IsLoaded, IsNumber}
+use Rattle.lie_datum.specs.RootList.{RootDatum, IsLoaded, IsNumber}
 use Rattle.lie_datum.specs.Numbers.{number_at}
 use Rattle.lie_datum.proofs.Entries.{within_or_past}
 use Rattle.lie_const.specs.StructureConstants.{Table}
@@ -27,7 +27,7 @@ pub length-push : {A : Type 0} (xs : List A) (x : A) → length (xs ++ x ∷ [])
 length-push [] x = refl
 length-push (y ∷ xs) x = let e = length-push xs x in omega (arith, e)
 
-module _ (d : Roots) (n : Table) (r : ℤ) where
+module _ (d : RootDatum) (n : Table) (r : ℤ) where
   abbrev none : Matrix ℤ
   none = zero_matrix (pos 0) (adjoint_dimension d) (adjoint_dimension d)
 
@@ -105,7 +105,7 @@ module _ (d : Roots) (n : Table) (r : ℤ) where
               (λ g. o (sym (get_or-last Ms M none 2 (sym before)) ∙ ap (λ xs. get_or xs 2 none) (sym e) ∙ g)));
         }
 
-module _ (d : Roots) (n : Table) where
+module _ (d : RootDatum) (n : Table) where
   -- no root yet
   pub all-none : (Mss : List (List (Matrix ℤ))) → Mss ≡ [] → AreAllDivided d n 0 Mss
   all-none Mss e = record { count = ap length e; each = λ i l. absurd (omega (arith, l)) }

@@ -15,7 +15,7 @@ use Rattle.std.proofs.lemmas.Bool.Decides.{nat_tests}
 use Rattle.lie_datum.specs.declared.root_pair.Root.{Root}
 use Rattle.lie_datum.specs.Vectors.{Vector, minus}
 use Rattle.lie_datum.specs.RootDatum.{opposite}
-use Rattle.lie_datum.specs.RootList.{Roots, IsLoaded, IsNumber, root_of, IsRootVector}
+use Rattle.lie_datum.specs.RootList.{RootDatum, IsLoaded, IsNumber, root_of, IsRootVector}
 use Rattle.lie_datum.proofs.RootOrder.{equal_slices, slices_total}
 use Rattle.lie_datum.proofs.NumberLemmas.{within, some_within, some_map}
 use Rattle.lie_datum.proofs.LoadedLaws.{twice_opposite}
@@ -57,14 +57,14 @@ position-None p xs k x e l = by (ltb (position_or_len p xs) (length xs)) refl e
     by false f g = let high : length xs ≤ position_or_len p xs = grind (arith, nat_tests) in fails_before_first p xs k x (omega (arith, high, l))
 
 -- the number of a vector
-pub data Numbering (d : Roots) (v : Vector) : ℤ → Type 0 where
+pub data Numbering (d : RootDatum) (v : Vector) : ℤ → Type 0 where
   numbers : (k : ℤ) → IsNumber d k → coeffs_of d k ≡ v → Numbering d v k
   none : ¬ IsRootVector d v → Numbering d v (pos 0)
 
 abbrev no_root : Root
 no_root = record { coeffs = []; co_coeffs = [] }
 
-module _ (d : Roots) (loaded : IsLoaded d) where
+module _ (d : RootDatum) (loaded : IsLoaded d) where
   -- the positive root at a place
   positive_root : (j : ℕ) (z : Root) → j < length d.positive → get_or d.positive j z ≡ root_of d (pos (suc j))
   positive_root j z l = get_or_default d.positive j z no_root l ∙ sym (unwrap_or-slice_get d.positive j no_root)

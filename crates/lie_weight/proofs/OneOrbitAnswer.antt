@@ -1,10 +1,10 @@
 -- A weight has one answer of `Module::orbit`, want of memory aside.
 use Rattle.std.proofs.Common.{◌≡◌, ◌≢◌, ℕ, zero, suc, ◌<◌, ◌≤◌, ℤ, List, [], ◌∷◌, length, refl, sym, ap, subst, ◌∙◌, arith, ◌⊎◌, inl, inr, ⊎_elim, Result, Ok, Err}
 use Rattle.std.specs.List.{Contains}
-use Rattle.lie_base.proofs.Members.{IsSimpleList}
+use Rattle.lie_base.proofs.Members.{HasNoRepeats}
 use Rattle.lie_datum.specs.Vectors.{Vector}
 use Rattle.lie_datum.specs.Numbers.{place}
-use Rattle.lie_datum.specs.RootList.{Roots, IsNumber, IsLoaded}
+use Rattle.lie_datum.specs.RootList.{RootDatum, IsNumber, IsLoaded}
 use Rattle.lie_datum.proofs.Entries.{within_or_past}
 use Rattle.lie_datum.proofs.ClosureLemmas.{in_from_contains, contains_from_in, pigeonhole}
 use Rattle.lie_datum.proofs.NumberLemmas.{place_within}
@@ -24,51 +24,51 @@ order : (x y : ℕ) → ¬ (x < y) → ¬ (y < x) → x ≡ y
 order x y m n = ⊎_elim (λ h. absurd (m h)) (λ h. ⊎_elim (λ k. absurd (n k)) (λ k. omega (arith, h, k)) (within_or_past y x)) (within_or_past x y)
 
 -- ---- the first heavy root
-one_heavy : (d : Roots) (w : Vector) (r s : ℤ) → IsFirstHeavy d w r → IsFirstHeavy d w s → r ≡ s
+one_heavy : (d : RootDatum) (w : Vector) (r s : ℤ) → IsFirstHeavy d w r → IsFirstHeavy d w s → r ≡ s
 one_heavy d w r s a b =
     same_place (length d.positive) r s (place_within d r a.number) (place_within d s b.number)
     (order (place (length d.positive) r) (place (length d.positive) s) (λ l. b.before r a.number l a.heavy) (λ l. a.before s b.number l b.heavy))
 
 -- ---- the number of members
-simple_list : (ws : List Vector) → AreDistinct ws → IsSimpleList ws
+simple_list : (ws : List Vector) → AreDistinct ws → HasNoRepeats ws
 simple_list [] h = tt
 simple_list (x ∷ ws) h =
     ((λ p. let c = contains_from_in ws x p in h zero (suc c.0) x (omega arith) (omega (arith, c.1)) (sym c.2)), simple_list ws (λ j k z l m. h (suc j) (suc k) z (omega (arith, l)) (omega (arith, m))))
 
 -- a list with all members has as many as any
-most : (d : Roots) (w : Vector) (n : ℕ) (ws : List Vector) → IsOrbitSize d w n → ((x : Vector) → IsReached d w x → Contains ws x) → n ≤ length ws
+most : (d : RootDatum) (w : Vector) (n : ℕ) (ws : List Vector) → IsOrbitSize d w n → ((x : Vector) → IsReached d w x → Contains ws x) → n ≤ length ws
 most d w n ws s whole =
     let p = pigeonhole s.ws ws (simple_list s.ws s.distinct) (λ x m. in_from_contains ws x (whole x (s.reached x (contains_from_in s.ws x m)))) in
     let c = s.count in
     omega (arith, p, c)
 
-no_more : (d : Roots) (w : Vector) (m n : ℕ) → IsOrbitSize d w m → IsOrbitSize d w n → ¬ (m < n)
+no_more : (d : RootDatum) (w : Vector) (m n : ℕ) → IsOrbitSize d w m → IsOrbitSize d w n → ¬ (m < n)
 no_more d w m n a b l =
     let f = b.few in
     let p = most d w n a.ws b (a.whole (omega (arith, l, f))) in
     let c = a.count in
     absurd (omega (arith, p, c, l))
 
-one_size : (d : Roots) (w : Vector) (m n : ℕ) → IsOrbitSize d w m → IsOrbitSize d w n → m ≡ n
+one_size : (d : RootDatum) (w : Vector) (m n : ℕ) → IsOrbitSize d w m → IsOrbitSize d w n → m ≡ n
 one_size d w m n a b = order m n (no_more d w m n a b) (no_more d w n m b a)
 
-not_wide : (d : Roots) (w : Vector) (n : ℕ) (ws : List Vector) → 300 < n → IsOrbitSize d w n → IsOrbit d w ws → length ws ≤ 300 → ⊥
+not_wide : (d : RootDatum) (w : Vector) (n : ℕ) (ws : List Vector) → 300 < n → IsOrbitSize d w n → IsOrbit d w ws → length ws ≤ 300 → ⊥
 not_wide d w n ws l s o f = let p = most d w n ws s (λ x. (o.members x).1) in absurd (omega (arith, p, l, f))
 
 -- ---- the first heavy weight
-not_light : (d : Roots) (w : Vector) (a : ℕ) (ws : List Vector) → IsFirstHeavyWeight d w a → IsOrbit d w ws → AreLight ws → ⊥
+not_light : (d : RootDatum) (w : Vector) (a : ℕ) (ws : List Vector) → IsFirstHeavyWeight d w a → IsOrbit d w ws → AreLight ws → ⊥
 not_light d w a ws h o l = l.light a (subst (λ us. IsHeavyAt us a) (one_orbit d w h.weights ws h.orbit o) h.heavy)
 
-one_heavy_weight : (d : Roots) (w : Vector) (a b : ℕ) → IsFirstHeavyWeight d w a → IsFirstHeavyWeight d w b → a ≡ b
+one_heavy_weight : (d : RootDatum) (w : Vector) (a b : ℕ) → IsFirstHeavyWeight d w a → IsFirstHeavyWeight d w b → a ≡ b
 one_heavy_weight d w a b g h =
     let e = one_orbit d w g.weights h.weights g.orbit h.orbit in
     order a b (λ l. h.before a l (subst (λ us. IsHeavyAt us a) e g.heavy)) (λ l. g.before b l (subst (λ us. IsHeavyAt us b) (sym e) h.heavy))
 
 -- ---- the first huge conjugate
-completed_less : (d : Roots) (eta : Signs) (v : Module) (h k : ℕ) → k ≤ h → IsCompletedBelow d eta v h → IsCompletedBelow d eta v k
+completed_less : (d : RootDatum) (eta : Signs) (v : Module) (h k : ℕ) → k ≤ h → IsCompletedBelow d eta v h → IsCompletedBelow d eta v k
 completed_less d eta v h k l c r low = c r (omega (arith, low, l))
 
-module _ (d : Roots) (loaded : IsLoaded d) (eta : Signs) (w : Vector) where
+module _ (d : RootDatum) (loaded : IsLoaded d) (eta : Signs) (w : Vector) where
   -- a place that is huge in one is huge in the other, up to the height at which both are completed
   carried : (r : ℤ) (k : ℕ) (a b : Module) → IsOrbit d w a.weights → IsOrbit d w b.weights → HasSteps d a → HasSteps d b → IsCompletedBelow d eta a (absolute_height d r) → IsCompletedBelow d eta b (absolute_height d r) → IsHuge d a r k → IsHuge d b r k
   carried r k a b oa ob sa sb ca cb x = huge_same d loaded a b (one_orbit d w b.weights a.weights ob oa) sa sb eta (absolute_height d r) ca cb r k (omega arith) x

@@ -3,7 +3,7 @@ use Rattle.std.proofs.Common.{◌≡◌, ◌-◌, ◌≤◌, List, [], length, g
 use Rattle.std.specs.List.{All}
 use Rattle.lie_datum.specs.Vectors.{Vector}
 use Rattle.lie_datum.specs.RootDatum.{IsWithin}
-use Rattle.lie_datum.specs.RootList.{Roots}
+use Rattle.lie_datum.specs.RootList.{RootDatum}
 use Rattle.lie_weight.specs.Orbits.{IsReached, IsOrbit, IsOrbitSize, IsMinuscule}
 use Rattle.lie_weight.specs.Growth.{IsGrowing, IsGrown, first_weight}
 use Rattle.lie_weight.specs.OrbitFaults.{IsHeavyWeight, AreLight, LoadsOrbit}
@@ -25,7 +25,7 @@ are_light ws few small = record {
 }
 
 -- the size of an orbit that has grown
-pub orbit_size : (d : Roots) (w : Vector) (ws : List Vector) → IsGrowing d ws → first_weight ws ≡ w → IsGrown d ws → IsOrbitSize d w (length ws)
+pub orbit_size : (d : RootDatum) (w : Vector) (ws : List Vector) → IsGrowing d ws → first_weight ws ≡ w → IsGrown d ws → IsOrbitSize d w (length ws)
 orbit_size d w ws g first grown = record {
   ws = ws;
   count = refl;
@@ -36,7 +36,7 @@ orbit_size d w ws g first grown = record {
 }
 
 -- why the module of an orbit is not completed
-pub fault_loads : (d : Roots) (eta : Signs) (w : Vector) (v : Module) (e : ModuleFault) → IsMinuscule d w → IsOrbit d w v.weights → AreLight v.weights → IsConjugateFault d eta v e → LoadsOrbit d eta w (Err e)
+pub fault_loads : (d : RootDatum) (eta : Signs) (w : Vector) (v : Module) (e : ModuleFault) → IsMinuscule d w → IsOrbit d w v.weights → AreLight v.weights → IsConjugateFault d eta v e → LoadsOrbit d eta w (Err e)
 fault_loads d eta w v NoMemory m o l h = tt
 fault_loads d eta w v (NotMinuscule r) m o l h = absurd h
 fault_loads d eta w v (Wide n) m o l h = absurd h

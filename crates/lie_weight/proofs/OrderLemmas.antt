@@ -14,7 +14,7 @@ use Rattle.std.specs.declared.cmp.Ordering.TheVariants.{Less, Equal, Greater}
 use Rattle.lie_datum.specs.Vectors.{Vector, pairing, total}
 use Rattle.lie_datum.specs.declared.root_pair.Root.{Root}
 use Rattle.lie_datum.specs.RootDatum.{Base, covector, opposite, IsWithin}
-use Rattle.lie_datum.specs.RootList.{Roots, IsLoaded, IsNumber, root_of}
+use Rattle.lie_datum.specs.RootList.{RootDatum, IsLoaded, IsNumber, root_of}
 use Rattle.lie_datum.specs.Laws.{positive_coroots, covectors}
 use Rattle.lie_datum.specs.Numbers.{number_at}
 use Rattle.lie_datum.proofs.Linear.{plus-pairing}
@@ -39,7 +39,7 @@ pub pairing-covectors : (b : Base) (x : Vector) (rs : List Root) → pairing x (
 pairing-covectors b x [] = pairing-nothing x
 pairing-covectors b x (r ∷ rs) = plus-pairing x (covector b r) (covectors b rs) ∙ ap (λ t. pairing x (covector b r) +ℤ t) (pairing-covectors b x rs)
 
-module _ (d : Roots) where
+module _ (d : RootDatum) where
   -- ---- the sum of the pairings with the positive coroots
   module _ (loaded : IsLoaded d) (x : Vector) (light : IsMinuscule d x) (k m : ℕ) (inside : k < length d.positive) (e : m ≡ length d.positive) (r : ℤ) (at : r ≡ number_at m k) where
     at_positive : r ≡ number_at (length d.positive) k
@@ -66,7 +66,7 @@ module _ (d : Roots) where
 abbrev pub leveled_cmp : Leveled → Leveled → Ordering
 leveled_cmp p q = ordering_then (int_cmp q.level.0 p.level.0) (slice_cmp int_cmp q.weight.0 p.weight.0)
 
-module _ (d : Roots) where
+module _ (d : RootDatum) where
   pub weight_total : IsTotalOrder (weight_cmp d)
   weight_total = then_total (on_total (λ x. pairing x (positive_coroots d)) (back_total int_cmp_total)) (back_total slices_total)
 

@@ -3,14 +3,14 @@ use Rattle.std.proofs.Common.{◌≡◌, ℕ, zero, suc, ◌-◌, ◌≤◌, ℤ
 use Rattle.std.proofs.lemmas.Int.{ints}
 use Rattle.lie_datum.specs.Vectors.{pairing, times, unit, entry}
 use Rattle.lie_datum.specs.RootDatum.{vector, simple_coroot, reflected, IsSimpleIndex}
-use Rattle.lie_datum.specs.RootList.{Roots, IsLoaded, IsNumber, root_of}
+use Rattle.lie_datum.specs.RootList.{RootDatum, IsLoaded, IsNumber, root_of}
 use Rattle.lie_datum.proofs.Entries.{entry-plus, entry-times, entry-unit}
 use Rattle.lie_datum.proofs.LoadedLaws.{short}
 use Rattle.lie_datum.proofs.SignedRoots.{root_is}
 use Rattle.lie_datum.proofs.VectorLemmas.{entry_within}
 use Rattle.lie_const.specs.StructureConstants.{coeffs_of}
 
-module _ (d : Roots) (loaded : IsLoaded d) where
+module _ (d : RootDatum) (loaded : IsLoaded d) where
   -- coefficients are within 100
   pub coefficient_small : (r : ℤ) (k : ℕ) → IsNumber d r → unsigned_abs (entry (coeffs_of d r) k) ≤ 100
   coefficient_small r k n = entry_within 100 (coeffs_of d r) k (loaded.axioms.finite.small (root_of d r) (root_is d loaded r n)).0

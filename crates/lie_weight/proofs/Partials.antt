@@ -5,7 +5,7 @@ use Rattle.std.proofs.lemmas.Bool.{cases_eq, cases_lt, eq-eqb, ne_eqb}
 use Rattle.lie_ring.specs.Integers.{integers}
 use Rattle.lie_ring.specs.Matrices.{Matrix, entry, with_entry, zero_matrix, AllFit}
 use Rattle.lie_ring.specs.MatrixLemmas.{entry-table, table-shaped}
-use Rattle.lie_datum.specs.RootList.{Roots}
+use Rattle.lie_datum.specs.RootList.{RootDatum}
 use Rattle.lie_const.specs.StructureConstants.{Table}
 use Rattle.lie_const.specs.CommutatorTerms.{factorial}
 use Rattle.lie_const.specs.Adjoint.{adjoint_dimension}
@@ -29,7 +29,7 @@ module _ (M : Matrix ℤ) (row col : ℕ) (e : ℤ) where
       same true = refl
       same false = refl
 
-module _ (d : Roots) (n : Table) (r : ℤ) (k : ℕ) where
+module _ (d : RootDatum) (n : Table) (r : ℤ) (k : ℕ) where
   -- an entry that is 0 in the power
   zero_divided : (c : ℤ) (i j : ℕ) → c ≡ pos 0 → power_entry d n r k i j ≡ pos 0 → IsDivided d n r k c i j
   zero_divided c i j p q = ap (λ x. pos (factorial k) *ℤ x) p ∙ *ℤ-zero (pos (factorial k)) ∙ sym q

@@ -9,7 +9,7 @@ use Rattle.lie_ring.specs.IntegerLaws.{integers_commutative}
 use Rattle.lie_ring.specs.Matrices.{Matrix, entry, product_entry}
 use Rattle.lie_ring.specs.MatrixLemmas.{entry-table}
 use Rattle.lie_ring.specs.SumLemmas.{sum-same, sum-zeros, sum-only}
-use Rattle.lie_datum.specs.RootList.{Roots}
+use Rattle.lie_datum.specs.RootList.{RootDatum}
 use Rattle.lie_const.specs.StructureConstants.{Table}
 use Rattle.lie_const.specs.Adjoint.{adjoint_dimension, basis_vector, bracket, bracket_matrix, matrix_power}
 pub use Rattle.lie_weight.specs.AdjointParts.{power_entry}
@@ -29,7 +29,7 @@ power-width : (n : ℕ) (e : Matrix ℤ) (k : ℕ) → (matrix_power n e k).widt
 power-width n e zero = refl
 power-width n e (suc k) = power-width n e k
 
-module _ (d : Roots) (n : Table) (r : ℤ) where
+module _ (d : RootDatum) (n : Table) (r : ℤ) where
   -- what e_r does to a basis vector
   abbrev pub bracket_at : ℕ → ℕ → ℤ
   bracket_at i j = bracket d n r (basis_vector d i) (basis_vector d j)

@@ -6,12 +6,12 @@ use Rattle.std.proofs.lemmas.List.FromFn.{length-map-range_with_len}
 use Rattle.lie_ring.specs.Matrices.{entry}
 use Rattle.lie_ring.specs.MatrixLemmas.{table-same}
 use Rattle.lie_datum.specs.RootDatum.{reflected, IsSimpleIndex, is_reflected}
-use Rattle.lie_datum.specs.RootList.{Roots, IsLoaded, IsNumber, root_of}
+use Rattle.lie_datum.specs.RootList.{RootDatum, IsLoaded, IsNumber, root_of}
 use Rattle.lie_datum.proofs.Entries.{within_or_past}
 use Rattle.lie_datum.proofs.LoadedLaws.{short}
 use Rattle.lie_datum.proofs.SignedRoots.{root_is, number_is}
 use Rattle.lie_const.specs.StructureConstants.{Table, StandsFor, coeffs_of, same_vector}
-use Rattle.lie_const.specs.CommutatorTerms.{chain, factorial, IsPair}
+use Rattle.lie_const.specs.CommutatorTerms.{string_product, factorial, IsPair}
 use Rattle.lie_const.specs.Modules.{Module, dimension, divided_power, top}
 use Rattle.lie_const.specs.Adjoint.{IsAdjoint, RootVector, CorootVector, adjoint_dimension, basis_vector, basis_place, basis_weight, bracket}
 use Rattle.lie_weight.specs.AdjointParts.{coroot_place, power_entry}
@@ -40,7 +40,7 @@ choice_small : (b : Bool) (x : ℤ) (m : ℕ) → unsigned_abs x ≤ m → unsig
 choice_small true x m l = l
 choice_small false x m l = omega arith
 
-module _ (d : Roots) (loaded : IsLoaded d) (n : Table) (stands : StandsFor d n) (r : ℤ) (number : IsNumber d r) where
+module _ (d : RootDatum) (loaded : IsLoaded d) (n : Table) (stands : StandsFor d n) (r : ℤ) (number : IsNumber d r) where
   coroot_small : (q : ℕ) → IsSimpleIndex d.base q → (i : ℕ) → i < adjoint_dimension d → unsigned_abs (bracket d n r (basis_vector d i) (CorootVector q)) ≤ 200
   coroot_small q h i l = elim (cases_eq i (basis_place d r)) [
     | inl e ↦
@@ -68,7 +68,7 @@ module _ (d : Roots) (loaded : IsLoaded d) (n : Table) (stands : StandsFor d n) 
   pair_small : (s : ℤ) → IsPair d r s → (k i : ℕ) → k ≤ 3 → i < adjoint_dimension d → unsigned_abs (power_entry d n r k i (basis_place d s)) ≤ 200
   pair_small s pair k i h l = subst (λ x. unsigned_abs x ≤ 200) (sym (string_column d loaded n r s pair k i l)) (⊎_elim
       (λ t. subst (λ x. unsigned_abs x ≤ 200) (sym (ap (string_value d loaded n r s pair k) t.1.vector))
-      (choice_small (same_vector (coeffs_of d t.0) (line (coeffs_of d r) (coeffs_of d s) k)) (chain d n (coeffs_of d r) (coeffs_of d s) k) 200 (let c = chain_small d loaded n stands r s pair k h in omega (arith, c))))
+      (choice_small (same_vector (coeffs_of d t.0) (line (coeffs_of d r) (coeffs_of d s) k)) (string_product d n (coeffs_of d r) (coeffs_of d s) k) 200 (let c = chain_small d loaded n stands r s pair k h in omega (arith, c))))
       (λ q. none_small (string_value d loaded n r s pair k (basis_vector d i)) 200 (ap (string_value d loaded n r s pair k) q.1.vector))
       (basis_cases d i l))
 
@@ -92,7 +92,7 @@ module _ (d : Roots) (loaded : IsLoaded d) (n : Table) (stands : StandsFor d n) 
       (λ high. none_small (power_entry d n r k i j) 200 (high_power d loaded n r number k i j high p q))
       (within_or_past k 4)
 
-module _ (d : Roots) (n : Table) (v : Module) (loaded : IsLoaded d) (stands : StandsFor d n) (adjoint : IsAdjoint d n v) where
+module _ (d : RootDatum) (n : Table) (v : Module) (loaded : IsLoaded d) (stands : StandsFor d n) (adjoint : IsAdjoint d n v) where
   pub adjoint_dim : dimension v ≡ adjoint_dimension d
   adjoint_dim = ap length adjoint.weights ∙ length-map-range_with_len (λ a. basis_weight d (basis_vector d a)) 0 (adjoint_dimension d)
 

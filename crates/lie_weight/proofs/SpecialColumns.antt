@@ -10,7 +10,7 @@ use Rattle.lie_ring.specs.IntegerLaws.{integers_commutative}
 use Rattle.lie_ring.specs.SumLemmas.{sum-same, sum-split, mul-sum}
 use Rattle.lie_datum.specs.Vectors.{Vector, pairing, plus, entry as coordinate}
 use Rattle.lie_datum.specs.RootDatum.{rank, vector, covector, simple_coroot, IsSimpleIndex}
-use Rattle.lie_datum.specs.RootList.{Roots, IsLoaded, IsNumber, root_of}
+use Rattle.lie_datum.specs.RootList.{RootDatum, IsLoaded, IsNumber, root_of}
 use Rattle.lie_datum.proofs.Linear.{pairing-combination, pairing_comm}
 use Rattle.lie_datum.proofs.LoadedLaws.{self}
 use Rattle.lie_datum.proofs.SignedRoots.{root_is}
@@ -33,7 +33,7 @@ pairing-sum [] y = sym (int_sum-zeros (length y) (λ k. pos 0 *ℤ coordinate y 
 pairing-sum (a ∷ x) [] = refl
 pairing-sum (a ∷ x) (b ∷ y) = ap (λ t. a *ℤ b +ℤ t) (pairing-sum x y) ∙ sym (int_sum-first (length y) (λ k. coordinate (a ∷ x) k *ℤ coordinate (b ∷ y) k))
 
-module _ (d : Roots) (loaded : IsLoaded d) (n : Table) (r : ℤ) (number : IsNumber d r) where
+module _ (d : RootDatum) (loaded : IsLoaded d) (n : Table) (r : ℤ) (number : IsNumber d r) where
   not_opposite_itself : r ≢ neg_ℤ r
   not_opposite_itself = apart r number
     where

@@ -14,7 +14,7 @@ use Rattle.lie_datum.proofs.Entries.{within_or_past}
 use Rattle.lie_datum.proofs.Linear.{pairing-times}
 use Rattle.lie_datum.proofs.SignedRoots.{opposite_number}
 use Rattle.lie_datum.proofs.VectorLemmas.{entry-combination, entry_within}
-use Rattle.lie_datum.specs.RootList.{Roots, root_of, IsNumber, IsLoaded}
+use Rattle.lie_datum.specs.RootList.{RootDatum, root_of, IsNumber, IsLoaded}
 use Rattle.lie_const.specs.Modules.{Module, dimension, divided_powers, divided_power, top, root_element, root_element_entry, weyl_element, weyl_inverse}
 use Rattle.lie_weight.specs.declared.factors.Factors.{Factors}
 use Rattle.lie_weight.specs.OrbitModules.{step_entry, step_matrix, StepsBy}
@@ -26,7 +26,7 @@ use Rattle.lie_weight.proofs.WeightLemmas.{from_entries, simple_some, simple_is,
 use Rattle.lie_weight.proofs.DraftLemmas.{past_end, single_zero, number_cases, powers_other, first_same, written_single}
 
 -- ---- the matrix of the steps by a root
-module _ (d : Roots) (ws : List Vector) (r : ℤ) where
+module _ (d : RootDatum) (ws : List Vector) (r : ℤ) where
   pub step-size : IsOfSize (length ws) (step_matrix d ws r)
   unfolding step_matrix
   step-size = record { height = refl; width = refl }
@@ -90,7 +90,7 @@ module _ (v : Module) (r : ℤ) (single : top v r ≤ 1) (S : Matrix ℤ) (size 
       ∙ ap (λ h. table h h (one_plus_entry (pos 1) S)) (sym size.height)
 
 -- ---- the factors of a simple index
-module _ (d : Roots) (v : Module) (i : ℕ) (up_single : top v (pos i) ≤ 1) (down_single : top v (neg_ℤ (pos i)) ≤ 1) (up : StepsBy d v (pos i)) (down : StepsBy d v (neg_ℤ (pos i))) where
+module _ (d : RootDatum) (v : Module) (i : ℕ) (up_single : top v (pos i) ≤ 1) (down_single : top v (neg_ℤ (pos i)) ≤ 1) (up : StepsBy d v (pos i)) (down : StepsBy d v (neg_ℤ (pos i))) where
   abbrev U : Matrix ℤ
   U = step_matrix d v.weights (pos i)
 
@@ -140,7 +140,7 @@ keeps_powers n M Ms some k = record {
     at zero z l = subst (IsSquare n) (sym (get_or_default Ms 0 z (zero_matrix (pos 0) n n) l ∙ k.first)) k.square
     at (suc i) z l = absurd (let f = k.few in omega (arith, f, l))
 
-module _ (d : Roots) (v : Module) (s : IsSingle d v) (r : ℤ) (number : IsNumber d r) (Ms : List (Matrix ℤ)) (keeps : Keeps (dimension v) (step_matrix d v.weights r) Ms) where
+module _ (d : RootDatum) (v : Module) (s : IsSingle d v) (r : ℤ) (number : IsNumber d r) (Ms : List (Matrix ℤ)) (keeps : Keeps (dimension v) (step_matrix d v.weights r) Ms) where
   pub steps_new : StepsBy d (with_powers v r Ms) r
   steps_new = record {
     first = first_same d v s r number Ms (step_matrix d v.weights r) keeps;
@@ -164,7 +164,7 @@ module _ (d : Roots) (v : Module) (s : IsSingle d v) (r : ℤ) (number : IsNumbe
   single_new = written_single d v s r number Ms (step_matrix d v.weights r) keeps
 
 -- ---- the roots of a simple index
-module _ (d : Roots) (loaded : IsLoaded d) where
+module _ (d : RootDatum) (loaded : IsLoaded d) where
   pub opposite_within : (n : ℕ) (r : ℤ) → IsNumber d r → IsWithin n (vector d.base (root_of d r)) → IsWithin n (vector d.base (root_of d (neg_ℤ r)))
   opposite_within n r number h =
       let c = (root_of d r).coeffs in
@@ -198,7 +198,7 @@ module _ (d : Roots) (loaded : IsLoaded d) where
 pub keeps_from : (n : ℕ) (M m : Matrix ℤ) (Ms : List (Matrix ℤ)) → m ≡ M → IsOfSize n M → Keeps m.height m Ms → Keeps n M Ms
 keeps_from n M m Ms e s k = subst (λ h. Keeps h M Ms) s.height (subst (λ t. Keeps t.height t Ms) e k)
 
-module _ (d : Roots) (v : Module) (s : IsSingle d v) (r : ℤ) (number : IsNumber d r) (w : Module) (h : WritesSteps d v r w) where
+module _ (d : RootDatum) (v : Module) (s : IsSingle d v) (r : ℤ) (number : IsNumber d r) (w : Module) (h : WritesSteps d v r w) where
   pub writes_single : IsSingle d w
   writes_single = subst (IsSingle d) (sym h.2) (single_new d v s r number h.0 h.1)
 
@@ -217,7 +217,7 @@ index_more (suc zero) zero l = inr (omega arith)
 index_more (suc (suc j)) zero l = absurd (omega (arith, l))
 index_more (suc j) (suc i) l = ⊎_elim (λ h. inl (omega (arith, h))) (λ h. inr (omega (arith, h))) (index_more j i (omega (arith, l)))
 
-pub two_steps : (d : Roots) → IsLoaded d → (u v w : Module) (i : ℕ) → i < rank d.base → IsStepped d i u → WritesSteps d u (pos (i + 1)) v → WritesSteps d v (neg_ℤ (pos (i + 1))) w → IsStepped d (i + 1) w
+pub two_steps : (d : RootDatum) → IsLoaded d → (u v w : Module) (i : ℕ) → i < rank d.base → IsStepped d i u → WritesSteps d u (pos (i + 1)) v → WritesSteps d v (neg_ℤ (pos (i + 1))) w → IsStepped d (i + 1) w
 two_steps d loaded u v w i l s a b =
     let index = place_index d loaded i l in
     let n = simple_some d loaded (i + 1) index in
@@ -235,7 +235,7 @@ two_steps d loaded u v w i l s a b =
           (λ e. subst (λ t. StepsBy d w (neg_ℤ (pos t))) (sym e) (writes_new d v sv (neg_ℤ (pos (i + 1))) m w b)) (index_more j i le));
     }
 
-pub none_stepped : (d : Roots) (v : Module) → IsSingle d v → IsStepped d 0 v
+pub none_stepped : (d : RootDatum) (v : Module) → IsSingle d v → IsStepped d 0 v
 none_stepped d v s = record {
   single = s;
   up = λ i x l. absurd (let p = x.0 in omega (arith, p, l));
@@ -251,7 +251,7 @@ member_push P xs y h p k z l =
     let read = ap (λ t. get_or (xs ++ y ∷ []) t z) at ∙ get_or-append-add xs (y ∷ []) 0 z in
     subst (P k) (sym read) (subst (λ t. P t y) (sym last) p))) (within_or_past k (length xs))
 
-pub all_factors_are : (d : Roots) (v : Module) (fs : List Factors) (i : ℕ) → length fs ≡ i → i ≡ rank d.base → ((k : ℕ) (z : Factors) → k < i → AreModuleFactors v (k + 1) (get_or fs k z)) → AreAllFactors d v fs
+pub all_factors_are : (d : RootDatum) (v : Module) (fs : List Factors) (i : ℕ) → length fs ≡ i → i ≡ rank d.base → ((k : ℕ) (z : Factors) → k < i → AreModuleFactors v (k + 1) (get_or fs k z)) → AreAllFactors d v fs
 all_factors_are d v fs i count whole h = record {
   count = count ∙ whole;
   each = λ j z s. by j z s;

@@ -5,13 +5,13 @@ use Rattle.std.proofs.lemmas.Int.{ints}
 use Rattle.std.specs.List.{find, filter, AllZip}
 use Rattle.lie_base.proofs.Members.{In, here, there}
 use Rattle.lie_datum.specs.Vectors.{Vector, plus, times, entry}
-use Rattle.lie_datum.specs.RootList.{Roots, IsLoaded, IsNumber, all_roots, IsRootVector}
+use Rattle.lie_datum.specs.RootList.{RootDatum, IsLoaded, IsNumber, all_roots, IsRootVector}
 use Rattle.lie_datum.proofs.Entries.{entry-times, length-times, same_entries}
 use Rattle.lie_datum.proofs.LoadedLaws.{all_only, all_in}
 use Rattle.lie_datum.proofs.SignedRoots.{number_is}
 use Rattle.lie_const.specs.declared.term.Term.{Term}
 use Rattle.lie_const.specs.StructureConstants.{Table, coeffs_of, same_vector, find_root}
-use Rattle.lie_const.specs.CommutatorTerms.{chain, factorial, coefficient, IsValue, exponents, term_vector, term_exponents, IsTerm, AreTerms, number_of}
+use Rattle.lie_const.specs.CommutatorTerms.{string_product, factorial, coefficient, IsValue, exponents, term_vector, term_exponents, IsTerm, AreTerms, number_of}
 use Rattle.lie_weight.proofs.NumberOf.{same_vector-true, same_vector-yes, number_of-root}
 use Rattle.lie_weight.proofs.LineLemmas.{line}
 
@@ -71,7 +71,7 @@ module _ {A : Type 0} (p : A → Bool) where
       by false f (there j) g = g j
 
 -- the value of a term (k, 1)
-value-is : (d : Roots) (n : Table) (R S : Vector) (c : ℤ) (k : ℕ) → IsValue c (coefficient d n R S k 1) → pos (factorial k) *ℤ c ≡ chain d n R S k
+value-is : (d : RootDatum) (n : Table) (R S : Vector) (c : ℤ) (k : ℕ) → IsValue c (coefficient d n R S k 1) → pos (factorial k) *ℤ c ≡ string_product d n R S k
 value-is d n R S c k h = *ℤ_comm (pos (factorial k)) c ∙ h
 
 -- the exponents (1, 1), (2, 1) and (3, 1) are listed
@@ -82,7 +82,7 @@ listed (suc (suc zero)) p q = there (there (here refl))
 listed (suc (suc (suc zero))) p q = there (there (there (there (here refl))))
 listed (suc (suc (suc (suc k)))) p q = absurd (omega arith)
 
-module _ (d : Roots) (loaded : IsLoaded d) where
+module _ (d : RootDatum) (loaded : IsLoaded d) where
   root_found : (v : Vector) → is_some (find_root d v) ≡ true → IsRootVector d v
   root_found v e = let f = find_only (λ r. same_vector r.coeffs v) (all_roots d) e in (f.0, all_only d loaded f.0 f.1, same_vector-true f.0.coeffs v f.2)
 
@@ -102,7 +102,7 @@ module _ (d : Roots) (loaded : IsLoaded d) where
     pub record IsTermOf (k : ℕ) (t : Term) : Type 0 where
       pub number : IsNumber d t.root
       pub coeffs : coeffs_of d t.root ≡ line (coeffs_of d r) (coeffs_of d s) k
-      pub value : pos (factorial k) *ℤ t.value ≡ chain d n (coeffs_of d r) (coeffs_of d s) k
+      pub value : pos (factorial k) *ℤ t.value ≡ string_product d n (coeffs_of d r) (coeffs_of d s) k
 
     pub term_found : (k : ℕ) (t : Term) → In t ts → t.i ≡ k → t.j ≡ 1 → IsTermOf k t
     term_found k t i p q =

@@ -11,7 +11,7 @@ use Rattle.lie_base.proofs.Members.{In, here, there}
 use Rattle.lie_datum.specs.Vectors.{Vector}
 use Rattle.lie_datum.specs.Numbers.{place, number_at}
 use Rattle.lie_datum.specs.RootDatum.{rank, IsSimpleIndex}
-use Rattle.lie_datum.specs.RootList.{Roots, IsNumber, IsLoaded}
+use Rattle.lie_datum.specs.RootList.{RootDatum, IsNumber, IsLoaded}
 use Rattle.lie_datum.proofs.Entries.{within_or_past}
 use Rattle.lie_datum.proofs.ClosureLemmas.{in_from_contains, contains_from_in}
 use Rattle.lie_datum.proofs.NumberLemmas.{numbered_at}
@@ -28,7 +28,7 @@ use Rattle.lie_weight.proofs.CompletionLemmas.{lowered_below}
 use Rattle.lie_weight.proofs.LoweringLemmas.{lowering_exists}
 
 -- ---- one list of weights
-module _ (d : Roots) where
+module _ (d : RootDatum) where
   same_order : (x : Vector) → weight_cmp d x x ≡ Equal
   same_order x = tied_itself (weight_total d) x
 
@@ -68,7 +68,7 @@ module _ (d : Roots) where
       (λ x m. in_from_contains ys x ((q.members x).1 ((p.members x).0 (contains_from_in xs x m)))) (λ x m. in_from_contains xs x ((p.members x).1 ((q.members x).0 (contains_from_in ys x m))))
 
 -- ---- a simple root keeps one matrix at most
-steps_single : (d : Roots) (v : Module) (q : ℤ) → IsModule d v → IsNumber d q → StepsBy d v q → top v q ≤ 1
+steps_single : (d : RootDatum) (v : Module) (q : ℤ) → IsModule d v → IsNumber d q → StepsBy d v q → top v q ≤ 1
 steps_single d v q shape n s = by (top v q) refl
   where
     by : (t : ℕ) → top v q ≡ t → t ≤ 1
@@ -77,13 +77,13 @@ steps_single d v q shape n s = by (top v q) refl
     by (suc (suc t)) e = absurd (shape.last q (suc t) n e (s.others (suc (suc t)) (omega arith)))
 
 -- a number of a simple root or its negative, or of another root
-simple_or_past : (d : Roots) (r : ℤ) → IsNumber d r → ((i : ℕ) × IsSimpleIndex d.base i × ((r ≡ pos i) ⊎ (r ≡ neg_ℤ (pos i)))) ⊎ (rank d.base < unsigned_abs r)
+simple_or_past : (d : RootDatum) (r : ℤ) → IsNumber d r → ((i : ℕ) × IsSimpleIndex d.base i × ((r ≡ pos i) ⊎ (r ≡ neg_ℤ (pos i)))) ⊎ (rank d.base < unsigned_abs r)
 simple_or_past d (pos zero) n = cc
 simple_or_past d (pos (suc k)) n = ⊎_elim (λ l. inr l) (λ l. inl (suc k, (omega arith, l), inl refl)) (within_or_past (rank d.base) (suc k))
 simple_or_past d (negsuc k) n = ⊎_elim (λ l. inr l) (λ l. inl (suc k, (omega arith, l), inr refl)) (within_or_past (rank d.base) (suc k))
 
 -- ---- two modules with the same weights and with steps
-module _ (d : Roots) (loaded : IsLoaded d) (v w : Module) (same : w.weights ≡ v.weights) (sv : HasSteps d v) (sw : HasSteps d w) where
+module _ (d : RootDatum) (loaded : IsLoaded d) (v w : Module) (same : w.weights ≡ v.weights) (sv : HasSteps d v) (sw : HasSteps d w) where
   size : dimension w ≡ dimension v
   size = ap length same
 
@@ -177,7 +177,7 @@ places_same (suc n) (x ∷ xs) (y ∷ ys) p q h =
     cc
 
 -- two modules with the same weights and the same matrices are one
-pub one_module : (d : Roots) (v w : Module) → IsModule d v → IsModule d w → w.weights ≡ v.weights → ((r : ℤ) (k : ℕ) → IsNumber d r → 1 ≤ k → divided_power w r k ≡ divided_power v r k) → w ≡ v
+pub one_module : (d : RootDatum) (v w : Module) → IsModule d v → IsModule d w → w.weights ≡ v.weights → ((r : ℤ) (k : ℕ) → IsNumber d r → 1 ≤ k → divided_power w r k ≡ divided_power v r k) → w ≡ v
 one_module d v w sv sw same h =
     let p : w.positive ≡ v.positive = sw.positive ∙ sym sv.positive in
     let l = places_same (2 * length d.positive) w.powers v.powers sw.roots sv.roots (λ k m. at k m) in

@@ -8,7 +8,7 @@ use Rattle.std.proofs.lemmas.Int.{ints}
 use Rattle.lie_datum.specs.Vectors.{Vector, pairing, plus, times, combination, unit, entry}
 use Rattle.lie_datum.specs.Numbers.{place, number_at}
 use Rattle.lie_datum.specs.RootDatum.{simple, simple_root, simple_coroot, vector, covector, reflected, is_reflected, IsSimpleIndex, IsWithin}
-use Rattle.lie_datum.specs.RootList.{Roots, root_of, IsNumber, IsLoaded}
+use Rattle.lie_datum.specs.RootList.{RootDatum, root_of, IsNumber, IsLoaded}
 use Rattle.lie_datum.proofs.Entries.{within_or_past, same_entries, length-unit}
 use Rattle.lie_datum.proofs.NumberLemmas.{within, numbered_at, place_within}
 use Rattle.lie_datum.proofs.SignedRoots.{root_is, number_is, same_place}
@@ -53,7 +53,7 @@ pub number_at_simple : (m i : ℕ) → 1 ≤ i → i - 1 < m → number_at m (i 
 number_at_simple m zero p q = absurd (omega (arith, p))
 number_at_simple m (suc i) p q = let e : suc i - 1 ≡ i = omega arith in rw e (grind (arith, nat_tests, rw e at q))
 
-module _ (d : Roots) (loaded : IsLoaded d) where
+module _ (d : RootDatum) (loaded : IsLoaded d) where
   pub covector_within : (r : ℤ) → IsNumber d r → IsWithin 80000 (covector d.base (root_of d r))
   covector_within r n =
       let small = loaded.axioms.finite.small (root_of d r) (root_is d loaded r n) in
@@ -129,7 +129,7 @@ module _ (d : Roots) (loaded : IsLoaded d) where
       reached_light w h x p q.0 q.1 (subst (λ t. 1 < unsigned_abs t) e heavy))
 
 -- ---- places
-module _ (d : Roots) where
+module _ (d : RootDatum) where
   -- the root at a place is no heavier than those before it
   pub heavy_more : (w : Vector) (p : ℕ) → p < 2 * length d.positive → ¬ IsHeavyRoot d w (number_at (length d.positive) p) → ((r : ℤ) → IsNumber d r → place (length d.positive) r < p → ¬ IsHeavyRoot d w r) →
       (r : ℤ) → IsNumber d r → place (length d.positive) r < p + 1 → ¬ IsHeavyRoot d w r

@@ -3,7 +3,7 @@ use Rattle.std.specs.Prelude.{◌≡◌, ◌≢◌, ◌⊎◌, ℕ, ◌-◌, ◌
 use Rattle.lie_ring.specs.Matrices.{Matrix, zero_matrix}
 use Rattle.lie_datum.specs.Numbers.{place}
 use Rattle.lie_datum.specs.RootDatum.{rank, IsSimpleIndex}
-use Rattle.lie_datum.specs.RootList.{Roots, IsNumber}
+use Rattle.lie_datum.specs.RootList.{RootDatum, IsNumber}
 use Rattle.lie_const.specs.Modules.{Module, IsModule, dimension, top}
 use Rattle.lie_const.specs.Signs.{Signs}
 use Rattle.lie_weight.specs.declared.factors.Factors.{Factors}
@@ -26,38 +26,38 @@ abbrev pub with_powers : Module → ℤ → List (Matrix ℤ) → Module
 with_powers v r Ms = record { positive = v.positive; weights = v.weights; powers = slice_set v.powers (place v.positive r) Ms }
 
 -- a module in which each root has E^(1) at most
-pub record IsSingle (d : Roots) (v : Module) : Type 0 where
+pub record IsSingle (d : RootDatum) (v : Module) : Type 0 where
   pub shape : IsModule d v
   pub single : (r : ℤ) → IsNumber d r → top v r ≤ 1
 
 -- the first n simple roots and their negatives step
-pub record IsStepped (d : Roots) (n : ℕ) (v : Module) : Type 0 where
+pub record IsStepped (d : RootDatum) (n : ℕ) (v : Module) : Type 0 where
   pub single : IsSingle d v
   pub up : (i : ℕ) → IsSimpleIndex d.base i → i ≤ n → StepsBy d v (pos i)
   pub down : (i : ℕ) → IsSimpleIndex d.base i → i ≤ n → StepsBy d v (neg_ℤ (pos i))
 
 -- the matrices of r are those of the steps by it, and those of the others stay
-abbrev pub WritesSteps : Roots → Module → ℤ → Module → Type 0
+abbrev pub WritesSteps : RootDatum → Module → ℤ → Module → Type 0
 WritesSteps d v r w = (Ms : List (Matrix ℤ)) × Keeps (dimension v) (step_matrix d v.weights r) Ms × (w ≡ with_powers v r Ms)
 
 -- r is of less absolute height than h, or of that height and before the place p
-abbrev pub IsBefore : Roots → ℕ → ℕ → ℤ → Type 0
+abbrev pub IsBefore : RootDatum → ℕ → ℕ → ℤ → Type 0
 IsBefore d h p r = (absolute_height d r < h) ⊎ ((absolute_height d r ≡ h) × (place (length d.positive) r < p))
 
 -- the simple roots step, and the roots before that place are completed, with no work that is huge
-pub record IsPartly (d : Roots) (eta : Signs) (h p : ℕ) (v : Module) : Type 0 where
+pub record IsPartly (d : RootDatum) (eta : Signs) (h p : ℕ) (v : Module) : Type 0 where
   pub steps : HasSteps d v
   pub single : (r : ℤ) → IsNumber d r → top v r ≤ 1
   pub completed : (r : ℤ) → IsNumber d r → IsBefore d h p r → IsCompletedAt d eta v r
   pub small : (r : ℤ) (k : ℕ) → IsNumber d r → IsBefore d h p r → ¬ IsHuge d v r k
 
 -- the list has the factors of each simple index
-pub record AreAllFactors (d : Roots) (v : Module) (fs : List Factors) : Type 0 where
+pub record AreAllFactors (d : RootDatum) (v : Module) (fs : List Factors) : Type 0 where
   pub count : length fs ≡ rank d.base
   pub each : (i : ℕ) (z : Factors) → IsSimpleIndex d.base i → AreModuleFactors v i (slice_index_or fs (i - 1) z)
 
 -- why the module is not completed
-abbrev pub IsConjugateFault : Roots → Signs → Module → ModuleFault → Type 0
+abbrev pub IsConjugateFault : RootDatum → Signs → Module → ModuleFault → Type 0
 IsConjugateFault d eta v NoMemory = ⊤
 IsConjugateFault d eta v (Huge r k) = HasSteps d v × IsCompletedBelow d eta v (absolute_height d r) × IsFirstHuge d v r k
 IsConjugateFault d eta v (NotMinuscule r) = ⊥

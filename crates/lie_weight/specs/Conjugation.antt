@@ -15,20 +15,20 @@ use Rattle.lie_ring.specs.Powers.{power}
 use Rattle.lie_ring.specs.Matrices.{Matrix, table, entry, product, scaled}
 use Rattle.lie_datum.specs.Numbers.{place}
 use Rattle.lie_datum.specs.RootDatum.{rank, reflected, IsSimpleIndex}
-use Rattle.lie_datum.specs.RootList.{Roots, root_of, height, IsNumber}
+use Rattle.lie_datum.specs.RootList.{RootDatum, root_of, height, IsNumber}
 use Rattle.lie_const.specs.Modules.{Module, dimension, top, divided_power, weyl_element, weyl_inverse}
 use Rattle.lie_const.specs.Signs.{Signs}
 
 -- the absolute value of the height
-abbrev pub absolute_height : Roots → ℤ → ℕ
+abbrev pub absolute_height : RootDatum → ℤ → ℕ
 absolute_height d r = unsigned_abs (height (root_of d r))
 
 -- the absolute height of s_i r
-abbrev pub reflected_height : Roots → ℕ → ℤ → ℕ
+abbrev pub reflected_height : RootDatum → ℕ → ℤ → ℕ
 reflected_height d i r = unsigned_abs (height (reflected d.base i (root_of d r)))
 
 -- r is neither simple nor the negative of a simple root, i is the least simple index with s_i r lower than r, and s = s_i r
-pub record IsLowering (d : Roots) (i : ℕ) (r s : ℤ) : Type 0 where
+pub record IsLowering (d : RootDatum) (i : ℕ) (r s : ℤ) : Type 0 where
   pub index : IsSimpleIndex d.base i
   pub from : IsNumber d r
   pub past : rank d.base < unsigned_abs r
@@ -46,15 +46,15 @@ abbrev pub IsConjugate : Signs → Module → ℕ → ℤ → ℤ → ℕ → Ty
 IsConjugate eta v i r s k = divided_power v r k ≡ scaled integers (power integers (eta i s) k) (conjugated v i (divided_power v s k))
 
 -- it is for the i and s that lower r
-abbrev pub IsCompletedAt : Roots → Signs → Module → ℤ → Type 0
+abbrev pub IsCompletedAt : RootDatum → Signs → Module → ℤ → Type 0
 IsCompletedAt d eta v r = (i : ℕ) (s : ℤ) (k : ℕ) → IsLowering d i r s → 1 ≤ k → IsConjugate eta v i r s k
 
 -- at the roots of less absolute height than h
-abbrev pub IsCompletedBelow : Roots → Signs → Module → ℕ → Type 0
+abbrev pub IsCompletedBelow : RootDatum → Signs → Module → ℕ → Type 0
 IsCompletedBelow d eta v h = (r : ℤ) → absolute_height d r < h → IsCompletedAt d eta v r
 
 -- at all roots
-abbrev pub IsCompleted : Roots → Signs → Module → Type 0
+abbrev pub IsCompleted : RootDatum → Signs → Module → Type 0
 IsCompleted d eta v = (r : ℤ) → IsCompletedAt d eta v r
 
 -- the absolute values of the entries
@@ -83,7 +83,7 @@ pub record IsHugeMatrix (M : Matrix ℤ) : Type 0 where
   pub huge : 2 ^ 126 ≤ nat_abs (entry (pos 0) M row col)
 
 -- the work at r and k is huge
-pub record IsHuge (d : Roots) (v : Module) (r : ℤ) (k : ℕ) : Type 0 where
+pub record IsHuge (d : RootDatum) (v : Module) (r : ℤ) (k : ℕ) : Type 0 where
   pub index : ℕ
   pub lowered : ℤ
   pub lowering : IsLowering d index r lowered
@@ -91,12 +91,12 @@ pub record IsHuge (d : Roots) (v : Module) (r : ℤ) (k : ℕ) : Type 0 where
   pub work : IsHugeMatrix (work v index lowered k)
 
 -- q and j stand before r and k: by rising absolute height, then by the full order, then by rising k
-abbrev pub Precedes : Roots → ℤ → ℕ → ℤ → ℕ → Type 0
+abbrev pub Precedes : RootDatum → ℤ → ℕ → ℤ → ℕ → Type 0
 Precedes d q j r k =
     (absolute_height d q < absolute_height d r)
     ⊎ ((absolute_height d q ≡ absolute_height d r) × ((place (length d.positive) q < place (length d.positive) r) ⊎ ((q ≡ r) × (j < k))))
 
 -- r and k are the first that are huge
-pub record IsFirstHuge (d : Roots) (v : Module) (r : ℤ) (k : ℕ) : Type 0 where
+pub record IsFirstHuge (d : RootDatum) (v : Module) (r : ℤ) (k : ℕ) : Type 0 where
   pub huge : IsHuge d v r k
   pub before : (q : ℤ) (j : ℕ) → IsNumber d q → Precedes d q j r k → ¬ IsHuge d v q j

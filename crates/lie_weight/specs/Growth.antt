@@ -3,7 +3,7 @@ use Rattle.std.specs.Prelude.{◌≡◌, ℕ, ◌≤◌, ◌<◌, ◌+◌, ◌*�
 use Rattle.std.specs.List.{Contains}
 use Rattle.lie_datum.specs.Vectors.{Vector}
 use Rattle.lie_datum.specs.RootDatum.{IsSimpleIndex, IsWithin}
-use Rattle.lie_datum.specs.RootList.{Roots}
+use Rattle.lie_datum.specs.RootList.{RootDatum}
 use Rattle.lie_weight.specs.Orbits.{IsReached, reflected_weight, IsMinuscule, AreDistinct}
 
 -- the weight that the growth began with
@@ -11,7 +11,7 @@ abbrev pub first_weight : List Vector → Vector
 first_weight ws = slice_index_or ws 0 []
 
 -- different members of the orbit of the first, which is minuscule; each is at most 100 away from an earlier one
-pub record IsGrowing (d : Roots) (ws : List Vector) : Type 0 where
+pub record IsGrowing (d : RootDatum) (ws : List Vector) : Type 0 where
   pub some : 1 ≤ length ws
   pub light : IsMinuscule d (first_weight ws)
   pub reached : (x : Vector) → Contains ws x → IsReached d (first_weight ws) x
@@ -20,11 +20,11 @@ pub record IsGrowing (d : Roots) (ws : List Vector) : Type 0 where
   pub short : length ws ≤ 1025
 
 -- the image under s_i of the weight at k is in the list
-abbrev pub HasImage : Roots → List Vector → ℕ → ℕ → Type 0
+abbrev pub HasImage : RootDatum → List Vector → ℕ → ℕ → Type 0
 HasImage d ws k i = (z : Vector) → Contains ws (reflected_weight d i (slice_index_or ws k z))
 
 -- the images under all simple reflections of the weight at k are in the list
-abbrev pub HasImages : Roots → List Vector → ℕ → Type 0
+abbrev pub HasImages : RootDatum → List Vector → ℕ → Type 0
 HasImages d ws k = (i : ℕ) → IsSimpleIndex d.base i → HasImage d ws k i
 
 -- ys is xs with more at the end
@@ -32,9 +32,9 @@ abbrev pub StartsWith : List Vector → List Vector → Type 0
 StartsWith ys xs = (zs : List Vector) × (ys ≡ xs ++ zs)
 
 -- the list holds the images of all its members
-abbrev pub HasAllImages : Roots → List Vector → Type 0
+abbrev pub HasAllImages : RootDatum → List Vector → Type 0
 HasAllImages d ws = (k : ℕ) → k < length ws → HasImages d ws k
 
 -- the list holds the images of all its members, or has 1,025 members
-abbrev pub IsGrown : Roots → List Vector → Type 0
+abbrev pub IsGrown : RootDatum → List Vector → Type 0
 IsGrown d ws = length ws < 1025 → HasAllImages d ws

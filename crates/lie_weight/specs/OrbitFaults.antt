@@ -3,7 +3,7 @@
 use Rattle.std.specs.Prelude.{◌≡◌, ◌≢◌, ℕ, ◌-◌, ◌<◌, ◌≤◌, ℤ, List, [], length, slice_index_or, unsigned_abs, Result, Ok, Err, ⊤}
 use Rattle.std.specs.List.{Any}
 use Rattle.lie_datum.specs.Vectors.{Vector}
-use Rattle.lie_datum.specs.RootList.{Roots, IsLoaded}
+use Rattle.lie_datum.specs.RootList.{RootDatum, IsLoaded}
 use Rattle.lie_const.specs.Modules.{Module}
 use Rattle.lie_const.specs.Signs.{Signs}
 use Rattle.lie_weight.specs.declared.faults.ModuleFault.{ModuleFault}
@@ -26,7 +26,7 @@ pub record AreLight (ws : List Vector) : Type 0 where
   pub light : (a : ℕ) → ¬ IsHeavyAt ws a
 
 -- a is the first weight that has one
-pub record IsFirstHeavyWeight (d : Roots) (w : Vector) (a : ℕ) : Type 0 where
+pub record IsFirstHeavyWeight (d : RootDatum) (w : Vector) (a : ℕ) : Type 0 where
   pub weights : List Vector
   pub orbit : IsOrbit d w weights
   pub few : length weights ≤ 300
@@ -34,7 +34,7 @@ pub record IsFirstHeavyWeight (d : Roots) (w : Vector) (a : ℕ) : Type 0 where
   pub before : (b : ℕ) → b < a → ¬ IsHeavyAt weights b
 
 -- r and k are the first where the conjugates of the steps along the orbit are huge
-pub record IsFirstHugeConjugate (d : Roots) (eta : Signs) (w : Vector) (r : ℤ) (k : ℕ) : Type 0 where
+pub record IsFirstHugeConjugate (d : RootDatum) (eta : Signs) (w : Vector) (r : ℤ) (k : ℕ) : Type 0 where
   pub partial : Module
   pub weights : IsOrbit d w partial.weights
   pub light : AreLight partial.weights
@@ -43,7 +43,7 @@ pub record IsFirstHugeConjugate (d : Roots) (eta : Signs) (w : Vector) (r : ℤ)
   pub first : IsFirstHuge d partial r k
 
 -- what `Module::orbit` answers for a weight: the module of its orbit, or the first fault
-abbrev pub LoadsOrbit : Roots → Signs → Vector → Result Module ModuleFault → Type 0
+abbrev pub LoadsOrbit : RootDatum → Signs → Vector → Result Module ModuleFault → Type 0
 LoadsOrbit d eta w (Ok v) = IsMinuscule d w × IsOrbitModule d eta w v × AreLight v.weights × ((r : ℤ) (k : ℕ) → ¬ IsHuge d v r k)
 LoadsOrbit d eta w (Err NoMemory) = ⊤
 LoadsOrbit d eta w (Err (NotMinuscule r)) = IsFirstHeavy d w r
@@ -53,5 +53,5 @@ LoadsOrbit d eta w (Err (Huge r k)) = IsMinuscule d w × IsFirstHugeConjugate d 
 
 -- the cases of `LoadsOrbit` exclude one another: want of memory aside, a weight has one answer, and one module
 abbrev pub LoadsOrbitOneWay : Type 0
-LoadsOrbitOneWay = (d : Roots) (eta : Signs) (w : Vector) (x y : Result Module ModuleFault) → IsLoaded d →
+LoadsOrbitOneWay = (d : RootDatum) (eta : Signs) (w : Vector) (x y : Result Module ModuleFault) → IsLoaded d →
     LoadsOrbit d eta w x → LoadsOrbit d eta w y → x ≢ Err NoMemory → y ≢ Err NoMemory → x ≡ y

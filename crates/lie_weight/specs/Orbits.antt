@@ -14,42 +14,42 @@ use Rattle.std.specs.Cmp.Lexicographic.{slice_cmp}
 use Rattle.std.specs.declared.cmp.Ordering.{Ordering}
 use Rattle.lie_datum.specs.Vectors.{Vector, pairing, plus, times}
 use Rattle.lie_datum.specs.RootDatum.{simple_root, simple_coroot, covector, IsSimpleIndex}
-use Rattle.lie_datum.specs.RootList.{Roots, root_of, IsNumber}
+use Rattle.lie_datum.specs.RootList.{RootDatum, root_of, IsNumber}
 use Rattle.lie_datum.specs.Numbers.{place}
 use Rattle.lie_datum.specs.Laws.{positive_coroots}
 
 -- the pairing of a weight with the coroot of r
-abbrev pub weight_pairing : Roots → Vector → ℤ → ℤ
+abbrev pub weight_pairing : RootDatum → Vector → ℤ → ℤ
 weight_pairing d x r = pairing x (covector d.base (root_of d r))
 
 -- the simple reflection of a weight
-abbrev pub reflected_weight : Roots → ℕ → Vector → Vector
+abbrev pub reflected_weight : RootDatum → ℕ → Vector → Vector
 reflected_weight d i x = plus x (times (neg_ℤ (pairing x (simple_coroot d.base i))) (simple_root d.base i))
 
 -- x is reached from the weight w by simple reflections
-pub data IsReached (d : Roots) (w : Vector) : Vector → Type 0 where
+pub data IsReached (d : RootDatum) (w : Vector) : Vector → Type 0 where
   start : IsReached d w w
   next : (i : ℕ) (x : Vector) → IsSimpleIndex d.base i → IsReached d w x → IsReached d w (reflected_weight d i x)
 
 -- the order of weights: the greater pairing with the sum of the positive coroots first, then the greater vector first
-abbrev pub weight_cmp : Roots → Vector → Vector → Ordering
+abbrev pub weight_cmp : RootDatum → Vector → Vector → Ordering
 weight_cmp d x y = ordering_then (int_cmp (pairing y (positive_coroots d)) (pairing x (positive_coroots d))) (slice_cmp int_cmp y x)
 
 -- the orbit of w, in order
-pub record IsOrbit (d : Roots) (w : Vector) (ws : List Vector) : Type 0 where
+pub record IsOrbit (d : RootDatum) (w : Vector) (ws : List Vector) : Type 0 where
   pub sorted : IsStrictlySortedBy (weight_cmp d) ws
   pub members : (x : Vector) → Contains ws x ↔ IsReached d w x
 
 -- r pairs with w to more than 1, or to less than -1
-abbrev pub IsHeavyRoot : Roots → Vector → ℤ → Type 0
+abbrev pub IsHeavyRoot : RootDatum → Vector → ℤ → Type 0
 IsHeavyRoot d w r = 1 < unsigned_abs (weight_pairing d w r)
 
 -- w pairs with each root to -1, 0 or 1
-abbrev pub IsMinuscule : Roots → Vector → Type 0
+abbrev pub IsMinuscule : RootDatum → Vector → Type 0
 IsMinuscule d w = (r : ℤ) → IsNumber d r → ¬ IsHeavyRoot d w r
 
 -- r is the first root in the full order that pairs with w to more than 1, or to less than -1
-pub record IsFirstHeavy (d : Roots) (w : Vector) (r : ℤ) : Type 0 where
+pub record IsFirstHeavy (d : RootDatum) (w : Vector) (r : ℤ) : Type 0 where
   pub number : IsNumber d r
   pub heavy : IsHeavyRoot d w r
   pub before : (s : ℤ) → IsNumber d s → place (length d.positive) s < place (length d.positive) r → ¬ IsHeavyRoot d w s
@@ -59,7 +59,7 @@ abbrev pub AreDistinct : List Vector → Type 0
 AreDistinct ws = (j k : ℕ) (z : Vector) → j < k → k < length ws → ¬ (slice_index_or ws j z ≡ slice_index_or ws k z)
 
 -- the orbit of w has n members, or it has n at least, where n is 1,025
-pub record IsOrbitSize (d : Roots) (w : Vector) (n : ℕ) : Type 0 where
+pub record IsOrbitSize (d : RootDatum) (w : Vector) (n : ℕ) : Type 0 where
   pub ws : List Vector
   pub count : length ws ≡ n
   pub few : n ≤ 1025

@@ -23,31 +23,31 @@ fn adjoint(rt: &impl Abort, alloc: Global, datum: &Datum) -> Module
 }
 
 /// The number of matrices of the root of this number.
-fn top(datum: &Datum, module: &Module, k: i32) -> Option<u32>
-    requires { IsAdjointOf datum.now module.now }
+fn top(datum: &Datum, space: &Module, k: i32) -> Option<u32>
+    requires { IsAdjointOf datum.now space.now }
 {
     let r = datum.id(k)?;
-    Some(module.top(r))
+    Some(space.top(r))
 }
 
 /// The entry of E_r^(power) for the root r of this number, from the column of e_s to the row of e_t.
-fn root_entry(datum: &Datum, module: &Module, k: i32, power: u32, t: i32, s: i32) -> Option<i128>
-    requires { IsAdjointOf datum.now module.now }
+fn root_entry(datum: &Datum, space: &Module, k: i32, power: u32, t: i32, s: i32) -> Option<i128>
+    requires { IsAdjointOf datum.now space.now }
 {
     let row = place_in_basis(datum, datum.id(t)?);
     let col = place_in_basis(datum, datum.id(s)?);
-    entry(datum, module, k, power, row, col)
+    entry(datum, space, k, power, row, col)
 }
 
 /// The entry of E_r^(power) for the root r of this number.
-fn entry(datum: &Datum, module: &Module, k: i32, power: u32, row: usize, col: usize) -> Option<i128>
-    requires { IsAdjointOf datum.now module.now }
+fn entry(datum: &Datum, space: &Module, k: i32, power: u32, row: usize, col: usize) -> Option<i128>
+    requires { IsAdjointOf datum.now space.now }
 {
     let r = datum.id(k)?;
-    if power < 1 || power > module.top(r) || row >= module.dim() || col >= module.dim() {
+    if power < 1 || power > space.top(r) || row >= space.dim() || col >= space.dim() {
         return None;
     }
-    match module.power(r, power).get(row, col) {
+    match space.power(r, power).get(row, col) {
         Some(n) => Some(*n),
         None => Some(0),
     }
@@ -57,12 +57,12 @@ fn entry(datum: &Datum, module: &Module, k: i32, power: u32, row: usize, col: us
 fn adjoint_of_a1(rt: HostRuntime) {
     let alloc = rt.alloc();
     let datum = Datum::load(alloc, 1, &[vector(2, 0)], &[vector(1, 0)]).expect(&rt, "A_1");
-    let module = adjoint(&rt, alloc, &datum);
-    assert_eq!(rt; module.dim(), 3);
+    let space = adjoint(&rt, alloc, &datum);
+    assert_eq!(rt; space.dim(), 3);
     // a basis vector, and its weight
     for (a, weight) in [(0, 2), (1, 0), (2, -2)] {
-        assert!(rt; a < module.dim());
-        assert_eq!(rt; module.weight(a)[0], weight, "at {a}");
+        assert!(rt; a < space.dim());
+        assert_eq!(rt; space.weight(a)[0], weight, "at {a}");
     }
     // a root, a power, a row, a column, and the entry; all others are 0
     let cases = [
@@ -77,12 +77,12 @@ fn adjoint_of_a1(rt: HostRuntime) {
     ];
     for (k, power, row, col, value) in cases {
         assert_eq!(rt;
-            entry(&datum, &module, k, power, row, col),
+            entry(&datum, &space, k, power, row, col),
             Some(value),
             "E_{k}^({power}) at {row} {col}"
         );
     }
-    assert_eq!(rt; top(&datum, &module, 1), Some(2));
+    assert_eq!(rt; top(&datum, &space, 1), Some(2));
 }
 
 #[test]
@@ -91,8 +91,8 @@ fn adjoint_of_g2(rt: HostRuntime) {
     let roots = [vector(2, -1), vector(-3, 2)];
     let coroots = [vector(1, 0), vector(0, 1)];
     let datum = Datum::load(alloc, 2, &roots, &coroots).expect(&rt, "G_2");
-    let module = adjoint(&rt, alloc, &datum);
-    assert_eq!(rt; module.dim(), 14);
+    let space = adjoint(&rt, alloc, &datum);
+    assert_eq!(rt; space.dim(), 14);
     // a root, a power, and the image of the root e_s: e_t with a coefficient
     let cases = [
         (1, 1, 2, 3, 1),
@@ -102,13 +102,13 @@ fn adjoint_of_g2(rt: HostRuntime) {
     ];
     for (k, power, s, t, value) in cases {
         assert_eq!(rt;
-            root_entry(&datum, &module, k, power, t, s),
+            root_entry(&datum, &space, k, power, t, s),
             Some(value),
             "E_{k}^({power}) e_{s}"
         );
     }
     // a short root, and a long one
     for (k, count) in [(1, 3), (2, 2)] {
-        assert_eq!(rt; top(&datum, &module, k), Some(count), "root {k}");
+        assert_eq!(rt; top(&datum, &space, k), Some(count), "root {k}");
     }
 }

@@ -56,21 +56,21 @@ fn conjugated_powers(
     alloc: Global,
     factors: &Factors,
     sign: i128,
-    module: &Module,
+    space: &Module,
     s: RootId,
 ) -> Result<Vec<Mat<Ints>>, RingStop>
-    requires factors { AreFactors (dimension module.now) factors.now }
+    requires factors { AreFactors (dimension space.now) factors.now }
     requires sign { (sign ≡ pos 1) ⊎ (sign ≡ negsuc 0) }
-    requires number { unsigned_abs s ≤ module.now.positive }
-    requires single { top module.now s ≤ 1 }
-    ensures keeps { IfOk result (λ list. Keeps (dimension module.now) (scaled integers sign (product integers (product integers factors.now.element (divided_power module.now s 1)) factors.now.inverse)) list.items) }
-    ensures small { OnOk result (¬ IsHugeMatrix (work_on factors.now.absolute (divided_power module.now s 1))) }
-    ensures wide { result ≡ Err RingStop.Wide → IsHugeMatrix (work_on factors.now.absolute (divided_power module.now s 1)) }
+    requires number { unsigned_abs s ≤ space.now.positive }
+    requires single { top space.now s ≤ 1 }
+    ensures keeps { IfOk result (λ list. Keeps (dimension space.now) (scaled integers sign (product integers (product integers factors.now.element (divided_power space.now s 1)) factors.now.inverse)) list.items) }
+    ensures small { OnOk result (¬ IsHugeMatrix (work_on factors.now.absolute (divided_power space.now s 1))) }
+    ensures wide { result ≡ Err RingStop.Wide → IsHugeMatrix (work_on factors.now.absolute (divided_power space.now s 1)) }
 {
-    if module.top(s) == 0 {
+    if space.top(s) == 0 {
         return Ok(Vec::new(alloc));
     }
-    let power = module.power(s, 1);
+    let power = space.power(s, 1);
     match test_work(alloc, factors, power) {
         Ok(()) => {}
         Err(stop) => return Err(stop),
@@ -92,28 +92,28 @@ fn complete_root(
     datum: &Datum,
     signs: &Signs,
     factors: &[Factors],
-    module: &mut Module,
+    space: &mut Module,
     r: RootId,
 ) -> Result<(), ModuleFault>
     requires number { IsNumber datum.now r }
     requires past { rank datum.now.base < unsigned_abs r }
     requires signs { IsSignTable datum.now signs.now }
-    requires factors { AreAllFactors datum.now module.old factors.now }
-    requires some { 1 ≤ dimension module.old }
-    requires partly { IsPartly datum.now (eta_of signs.now) (absolute_height datum.now r) (place (length datum.now.positive) r) module.old }
-    ensures partly { OnOk result (IsPartly datum.now (eta_of signs.now) (absolute_height datum.now r) (place (length datum.now.positive) r + 1) module.new) }
-    ensures factors { AreAllFactors datum.now module.new factors.now }
-    ensures weights { module.new.weights ≡ module.old.weights }
-    ensures fault { IfErr result (IsConjugateFault datum.now (eta_of signs.now) module.new) }
+    requires factors { AreAllFactors datum.now space.old factors.now }
+    requires some { 1 ≤ dimension space.old }
+    requires partly { IsPartly datum.now (eta_of signs.now) (absolute_height datum.now r) (place (length datum.now.positive) r) space.old }
+    ensures partly { OnOk result (IsPartly datum.now (eta_of signs.now) (absolute_height datum.now r) (place (length datum.now.positive) r + 1) space.new) }
+    ensures factors { AreAllFactors datum.now space.new factors.now }
+    ensures weights { space.new.weights ≡ space.old.weights }
+    ensures fault { IfErr result (IsConjugateFault datum.now (eta_of signs.now) space.new) }
 {
     datum.loaded();
     let Some(lower) = lowered(datum, r) else {
         return Ok(());
     };
     let sign = signs.eta(lower.index, lower.root);
-    match conjugated_powers(alloc, &factors[lower.index - 1], sign, module, lower.root) {
+    match conjugated_powers(alloc, &factors[lower.index - 1], sign, space, lower.root) {
         Ok(powers) => {
-            module.set_powers(r, powers);
+            space.set_powers(r, powers);
             Ok(())
         }
         Err(RingStop::NoMemory) => Err(ModuleFault::NoMemory),
@@ -135,24 +135,24 @@ fn complete_height(
     datum: &Datum,
     signs: &Signs,
     factors: &[Factors],
-    module: &mut Module,
+    space: &mut Module,
     height: u32,
 ) -> Result<(), ModuleFault>
     requires signs { IsSignTable datum.now signs.now }
-    requires factors { AreAllFactors datum.now module.old factors.now }
-    requires some { 1 ≤ dimension module.old }
-    requires partly { IsPartly datum.now (eta_of signs.now) height 0 module.old }
-    ensures partly { OnOk result (IsPartly datum.now (eta_of signs.now) (height + 1) 0 module.new) }
-    ensures factors { AreAllFactors datum.now module.new factors.now }
-    ensures weights { module.new.weights ≡ module.old.weights }
-    ensures fault { IfErr result (IsConjugateFault datum.now (eta_of signs.now) module.new) }
+    requires factors { AreAllFactors datum.now space.old factors.now }
+    requires some { 1 ≤ dimension space.old }
+    requires partly { IsPartly datum.now (eta_of signs.now) height 0 space.old }
+    ensures partly { OnOk result (IsPartly datum.now (eta_of signs.now) (height + 1) 0 space.new) }
+    ensures factors { AreAllFactors datum.now space.new factors.now }
+    ensures weights { space.new.weights ≡ space.old.weights }
+    ensures fault { IfErr result (IsConjugateFault datum.now (eta_of signs.now) space.new) }
 {
     datum.loaded();
     let positive = datum.m();
     for place in 0..2 * positive {
         let r = RootId::at(place, positive);
         if is_past(datum, r) && datum.height(r).unsigned_abs() == height {
-            complete_root(alloc, datum, signs, factors, module, r)?;
+            complete_root(alloc, datum, signs, factors, space, r)?;
         }
     }
     Ok(())
@@ -181,20 +181,20 @@ pub(crate) fn complete(
     datum: &Datum,
     signs: &Signs,
     factors: &[Factors],
-    module: &mut Module,
+    space: &mut Module,
 ) -> Result<(), ModuleFault>
     requires signs { IsSignTable datum.now signs.now }
-    requires factors { AreAllFactors datum.now module.old factors.now }
-    requires some { 1 ≤ dimension module.old }
-    requires stepped { IsStepped datum.now (rank datum.now.base) module.old }
-    ensures steps { OnOk result (HasSteps datum.now module.new) }
-    ensures completed { OnOk result (IsCompleted datum.now (eta_of signs.now) module.new) }
-    ensures small { OnOk result ((r : ℤ) (k : ℕ) → ¬ IsHuge datum.now module.new r k) }
-    ensures weights { module.new.weights ≡ module.old.weights }
-    ensures fault { IfErr result (IsConjugateFault datum.now (eta_of signs.now) module.new) }
+    requires factors { AreAllFactors datum.now space.old factors.now }
+    requires some { 1 ≤ dimension space.old }
+    requires stepped { IsStepped datum.now (rank datum.now.base) space.old }
+    ensures steps { OnOk result (HasSteps datum.now space.new) }
+    ensures completed { OnOk result (IsCompleted datum.now (eta_of signs.now) space.new) }
+    ensures small { OnOk result ((r : ℤ) (k : ℕ) → ¬ IsHuge datum.now space.new r k) }
+    ensures weights { space.new.weights ≡ space.old.weights }
+    ensures fault { IfErr result (IsConjugateFault datum.now (eta_of signs.now) space.new) }
 {
     for height in 0..highest(datum) + 1 {
-        complete_height(alloc, datum, signs, factors, module, height)?;
+        complete_height(alloc, datum, signs, factors, space, height)?;
     }
     Ok(())
 }

@@ -59,10 +59,10 @@ impl Module {
             return Err(ModuleFault::Wide(count as u64));
         }
         let weights = in_order(alloc, datum, orbit.as_slice())?;
-        let mut module = stepped(alloc, datum, weights)?;
-        let factors = all_factors(alloc, datum, &module)?;
-        match complete(alloc, datum, signs, &factors, &mut module) {
-            Ok(()) => Ok(module),
+        let mut space = stepped(alloc, datum, weights)?;
+        let factors = all_factors(alloc, datum, &space)?;
+        match complete(alloc, datum, signs, &factors, &mut space) {
+            Ok(()) => Ok(space),
             Err(fault) => Err(fault),
         }
     }

@@ -66,26 +66,26 @@ fn fault(
 }
 
 /// The entry of E_r^(1) for the root of this number, 0 where there is none.
-fn entry(datum: &Datum, module: &Module, k: i32, row: usize, col: usize) -> i128
-    requires { module.now.positive ≡ length datum.now.positive }
+fn entry(datum: &Datum, space: &Module, k: i32, row: usize, col: usize) -> i128
+    requires { space.now.positive ≡ length datum.now.positive }
 {
     let Some(r) = datum.id(k) else {
         return 0;
     };
-    if module.top(r) == 0 || row >= module.dim() || col >= module.dim() {
+    if space.top(r) == 0 || row >= space.dim() || col >= space.dim() {
         return 0;
     }
-    match module.power(r, 1).get(row, col) {
+    match space.power(r, 1).get(row, col) {
         Some(n) => *n,
         None => 0,
     }
 }
 
 /// Tests the weights of a module.
-fn has_weights(rt: &impl Abort, module: &Module, weights: &[Vector]) {
-    assert_eq!(rt; module.dim(), weights.len());
+fn has_weights(rt: &impl Abort, space: &Module, weights: &[Vector]) {
+    assert_eq!(rt; space.dim(), weights.len());
     for a in 0..weights.len() {
-        assert_eq!(rt; *module.weight(a), weights[a], "weight {a}");
+        assert_eq!(rt; *space.weight(a), weights[a], "weight {a}");
     }
 }
 
@@ -93,14 +93,14 @@ fn has_weights(rt: &impl Abort, module: &Module, weights: &[Vector]) {
 fn has_entries(
     rt: &impl Abort,
     datum: &Datum,
-    module: &Module,
+    space: &Module,
     entries: &[(i32, usize, usize, i128)],
 )
-    requires { module.now.positive ≡ length datum.now.positive }
+    requires { space.now.positive ≡ length datum.now.positive }
 {
     for (k, row, col, value) in entries {
         assert_eq!(rt;
-            entry(datum, module, *k, *row, *col),
+            entry(datum, space, *k, *row, *col),
             *value,
             "root {k}, row {row}, column {col}"
         );
@@ -112,12 +112,12 @@ fn two_weights_of_a1(rt: HostRuntime) {
     let alloc = rt.alloc();
     let datum = load(&rt, alloc, 1, &[vector(2, 0)]);
     let signs = signs(&rt, alloc, &datum, &[-1, -1]);
-    let module = made(&rt, alloc, &datum, &signs, &vector(1, 0));
-    has_weights(&rt, &module, &[vector(1, 0), vector(-1, 0)]);
+    let space = made(&rt, alloc, &datum, &signs, &vector(1, 0));
+    has_weights(&rt, &space, &[vector(1, 0), vector(-1, 0)]);
     has_entries(
         &rt,
         &datum,
-        &module,
+        &space,
         &[
             (1, 0, 1, 1),
             (1, 1, 0, 0),
@@ -139,12 +139,12 @@ fn natural_module_of_a2(rt: HostRuntime) {
         &datum,
         &[-1, 1, -1, -1, 1, -1, -1, -1, 1, -1, -1, 1],
     );
-    let module = made(&rt, alloc, &datum, &signs, &vector(1, 0));
-    has_weights(&rt, &module, &[vector(1, 0), vector(-1, 1), vector(0, -1)]);
+    let space = made(&rt, alloc, &datum, &signs, &vector(1, 0));
+    has_weights(&rt, &space, &[vector(1, 0), vector(-1, 1), vector(0, -1)]);
     has_entries(
         &rt,
         &datum,
-        &module,
+        &space,
         &[
             (1, 0, 1, 1),
             (2, 1, 2, 1),
@@ -177,6 +177,6 @@ fn torus(rt: HostRuntime) {
     let alloc = rt.alloc();
     let datum = load(&rt, alloc, 1, &[]);
     let signs = signs(&rt, alloc, &datum, &[]);
-    let module = made(&rt, alloc, &datum, &signs, &vector(7, 0));
-    has_weights(&rt, &module, &[vector(7, 0)]);
+    let space = made(&rt, alloc, &datum, &signs, &vector(7, 0));
+    has_weights(&rt, &space, &[vector(7, 0)]);
 }

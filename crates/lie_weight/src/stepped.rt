@@ -19,20 +19,20 @@ use std::alloc::{AllocError, Global};
 fn write_steps(
     alloc: Global,
     datum: &Datum,
-    module: &mut Module,
+    space: &mut Module,
     root: RootId,
 ) -> Result<(), AllocError>
     requires number { IsNumber datum.now root }
     requires near { IsWithin 100 (vector datum.now.base (root_of datum.now root)) }
-    requires small { All (IsWithin 1000000) module.old.weights }
-    requires some { 1 ≤ dimension module.old }
-    requires few { dimension module.old ≤ 300 }
-    requires single { IsSingle datum.now module.old }
-    ensures { IfOk result (λ _. WritesSteps datum.now module.old root module.new) }
+    requires small { All (IsWithin 1000000) space.old.weights }
+    requires some { 1 ≤ dimension space.old }
+    requires few { dimension space.old ≤ 300 }
+    requires single { IsSingle datum.now space.old }
+    ensures { IfOk result (λ _. WritesSteps datum.now space.old root space.new) }
 {
-    let matrix = step_matrix(alloc, datum, module.weights(), root)?;
+    let matrix = step_matrix(alloc, datum, space.weights(), root)?;
     let powers = kept(alloc, matrix)?;
-    module.set_powers(root, powers);
+    space.set_powers(root, powers);
     Ok(())
 }
 
@@ -40,21 +40,21 @@ fn write_steps(
 fn write_simple_steps(
     alloc: Global,
     datum: &Datum,
-    module: &mut Module,
+    space: &mut Module,
     i: usize,
 ) -> Result<(), AllocError>
     requires index { i < rank datum.now.base }
-    requires small { All (IsWithin 1000000) module.old.weights }
-    requires some { 1 ≤ dimension module.old }
-    requires few { dimension module.old ≤ 300 }
-    requires stepped { IsStepped datum.now i module.old }
-    ensures stepped { IfOk result (λ _. IsStepped datum.now (i + 1) module.new) }
-    ensures weights { IfOk result (λ _. module.new.weights ≡ module.old.weights) }
+    requires small { All (IsWithin 1000000) space.old.weights }
+    requires some { 1 ≤ dimension space.old }
+    requires few { dimension space.old ≤ 300 }
+    requires stepped { IsStepped datum.now i space.old }
+    ensures stepped { IfOk result (λ _. IsStepped datum.now (i + 1) space.new) }
+    ensures weights { IfOk result (λ _. space.new.weights ≡ space.old.weights) }
 {
     datum.loaded();
     let simple = RootId::at(i, datum.m());
-    write_steps(alloc, datum, module, simple)?;
-    write_steps(alloc, datum, module, simple.opposite())
+    write_steps(alloc, datum, space, simple)?;
+    write_steps(alloc, datum, space, simple.opposite())
 }
 
 /// The module with these weights and the steps by the simple roots.
@@ -69,30 +69,30 @@ pub(crate) fn stepped(
     ensures stepped { IfOk result (IsStepped datum.now (rank datum.now.base)) }
     ensures weights { IfOk result (λ v. v.weights ≡ weights.items) }
 {
-    let mut module = Module::bare(alloc, datum.m(), weights)?;
+    let mut space = Module::bare(alloc, datum.m(), weights)?;
     for i in 0..datum.l() {
-        write_simple_steps(alloc, datum, &mut module, i)?;
+        write_simple_steps(alloc, datum, &mut space, i)?;
     }
-    Ok(module)
+    Ok(space)
 }
 
 /// The factors of the i-th simple index, with i counted from 0.
 fn simple_factors(
     alloc: Global,
     datum: &Datum,
-    module: &Module,
+    space: &Module,
     i: usize,
 ) -> Result<Factors, AllocError>
     requires index { i < rank datum.now.base }
-    requires small { All (IsWithin 1000000) module.now.weights }
-    requires few { dimension module.now ≤ 300 }
-    requires stepped { IsStepped datum.now (rank datum.now.base) module.now }
-    ensures { IfOk result (AreModuleFactors module.now (i + 1)) }
+    requires small { All (IsWithin 1000000) space.now.weights }
+    requires few { dimension space.now ≤ 300 }
+    requires stepped { IsStepped datum.now (rank datum.now.base) space.now }
+    ensures { IfOk result (AreModuleFactors space.now (i + 1)) }
 {
     datum.loaded();
     let simple = RootId::at(i, datum.m());
-    let up = step_matrix(alloc, datum, module.weights(), simple)?;
-    let down = step_matrix(alloc, datum, module.weights(), simple.opposite())?;
+    let up = step_matrix(alloc, datum, space.weights(), simple)?;
+    let down = step_matrix(alloc, datum, space.weights(), simple.opposite())?;
     step_factors(alloc, &up, &down)
 }
 
@@ -100,16 +100,16 @@ fn simple_factors(
 pub(crate) fn all_factors(
     alloc: Global,
     datum: &Datum,
-    module: &Module,
+    space: &Module,
 ) -> Result<Vec<Factors>, AllocError>
-    requires small { All (IsWithin 1000000) module.now.weights }
-    requires few { dimension module.now ≤ 300 }
-    requires stepped { IsStepped datum.now (rank datum.now.base) module.now }
-    ensures { IfOk result (λ list. AreAllFactors datum.now module.now list.items) }
+    requires small { All (IsWithin 1000000) space.now.weights }
+    requires few { dimension space.now ≤ 300 }
+    requires stepped { IsStepped datum.now (rank datum.now.base) space.now }
+    ensures { IfOk result (λ list. AreAllFactors datum.now space.now list.items) }
 {
     let mut list = Vec::new(alloc);
     for i in 0..datum.l() {
-        list.push(simple_factors(alloc, datum, module, i)?)?;
+        list.push(simple_factors(alloc, datum, space, i)?)?;
     }
     Ok(list)
 }

@@ -6,28 +6,28 @@ use Rattle.std.specs.Cmp.{nat_cmp_is}
 use Rattle.std.specs.Cmp.Lexicographic.{slice_cmp}
 use Rattle.std.specs.declared.cmp.Ordering.TheVariants.{Less, Equal, Greater}
 use Rattle.lie_datum.specs.RootDatum.{simple, reflected, IsSimpleIndex, is_reflected, IsPositive}
-use Rattle.lie_datum.specs.RootList.{Roots, IsLoaded}
+use Rattle.lie_datum.specs.RootList.{RootDatum, IsLoaded}
 use Rattle.lie_weyl.specs.WeylElement.{moved, SameProduct, word_length}
 use Rattle.lie_weyl.specs.Descents.{IsLeastOf}
 use Rattle.lie_weyl.proofs.Words.{IsWord, empty, letter, is_word, are_letters, IsWord-append, one_letter, IsWord-reverse, reverse-cons, IsRoot-moved, moved-append, reverse_moved, reverse_same, twice}
 use Rattle.lie_weyl.proofs.LengthLemmas.{length_same, longer, shorter, length_le, length_reverse}
 
 -- i is the least simple index whose root the word makes negative
-pub record IsLeastDescent (d : Roots) (w : List ℕ) (i : ℕ) : Type 0 where
+pub record IsLeastDescent (d : RootDatum) (w : List ℕ) (i : ℕ) : Type 0 where
   pub index : IsSimpleIndex d.base i
   pub down : ¬ IsPositive (moved d.base w (simple i))
   pub before : (j : ℕ) → IsSimpleIndex d.base j → j < i → IsPositive (moved d.base w (simple j))
 
 -- each letter of p is the least descent of the word before it
-abbrev pub AreDescents : Roots → List ℕ → List ℕ → Type 0
+abbrev pub AreDescents : RootDatum → List ℕ → List ℕ → Type 0
 AreDescents d w [] = Unit {0}
 AreDescents d w (i ∷ p) = IsLeastDescent d w i × AreDescents d (w ++ i ∷ []) p
 
-pub descents_more : (d : Roots) (w p : List ℕ) (i : ℕ) → AreDescents d w p → IsLeastDescent d (w ++ p) i → AreDescents d w (p ++ i ∷ [])
+pub descents_more : (d : RootDatum) (w p : List ℕ) (i : ℕ) → AreDescents d w p → IsLeastDescent d (w ++ p) i → AreDescents d w (p ++ i ∷ [])
 descents_more d w [] i h x = (subst (λ z. IsLeastDescent d z i) (append-nil w) x, tt)
 descents_more d w (j ∷ p) i h x = (h.0, descents_more d (w ++ j ∷ []) p i h.1 (subst (λ z. IsLeastDescent d z i) (sym (append_assoc w (j ∷ []) p)) x))
 
-pub descents_word : (d : Roots) (w p : List ℕ) → AreDescents d w p → IsWord d.base p
+pub descents_word : (d : RootDatum) (w p : List ℕ) → AreDescents d w p → IsWord d.base p
 descents_word d w [] h = empty
 descents_word d w (i ∷ p) h = letter h.0.index (descents_word d (w ++ i ∷ []) p h.1)
 
@@ -37,7 +37,7 @@ less_or zero (suc j) = inl (omega arith)
 less_or (suc i) zero = inr (inr (omega arith))
 less_or (suc i) (suc j) = ⊎_elim (λ l. inl (omega (arith, l))) (λ h. ⊎_elim (λ e. inr (inl (ap suc e))) (λ l. inr (inr (omega (arith, l)))) h) (less_or i j)
 
-module _ (d : Roots) (loaded : IsLoaded d) where
+module _ (d : RootDatum) (loaded : IsLoaded d) where
   -- each descent takes one from the length
   pub descents_size : (w p : List ℕ) → IsWord d.base w → AreDescents d w p → word_length d (w ++ p) + length p ≡ word_length d w
   descents_size w [] h a = ap (λ z. word_length d z + 0) (append-nil w) ∙ omega arith

@@ -3,7 +3,7 @@ use Rattle.std.proofs.Common.{◌≡◌, ℕ, ◌+◌, ◌≤◌, pos, ◌≤ℤ
 use Rattle.std.proofs.lemmas.List.{append_assoc}
 use Rattle.lie_datum.specs.Vectors.{Vector, entry}
 use Rattle.lie_datum.specs.RootDatum.{IsWithin}
-use Rattle.lie_datum.specs.RootList.{Roots, IsLoaded}
+use Rattle.lie_datum.specs.RootList.{RootDatum, IsLoaded}
 use Rattle.lie_weyl.specs.WeylElement.{word_length}
 use Rattle.lie_weyl.specs.Descents.{AreHeights, EndsAtRank, AreTurned, IsFirstNegative, IsLeastOf}
 use Rattle.lie_weyl.proofs.Words.{IsWord, IsWord-append}
@@ -11,7 +11,7 @@ use Rattle.lie_weyl.proofs.LengthLemmas.{trivial, length_same, length_empty, len
 use Rattle.lie_weyl.proofs.DescentLemmas.{AreDescents, descents_more, descents_word, descents_size, least_of_inverse}
 use Rattle.lie_weyl.proofs.HeightSigns.{heights_turned, first_descent, no_descent, heights_small}
 
-module _ (d : Roots) (loaded : IsLoaded d) (w : List ℕ) (h : IsWord d.base w) where
+module _ (d : RootDatum) (loaded : IsLoaded d) (w : List ℕ) (h : IsWord d.base w) where
   pub run_more : (word : List ℕ) (left turned : Vector) (k : ℕ) → AreDescents d w word → AreHeights d (w ++ word) left → EndsAtRank d left → IsFirstNegative left k → AreTurned d (k + 1) left turned →
       AreDescents d w (word ++ (k + 1) ∷ []) × AreHeights d (w ++ (word ++ (k + 1) ∷ [])) turned
   run_more word left turned k a at ends f t =

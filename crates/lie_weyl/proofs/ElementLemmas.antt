@@ -3,7 +3,7 @@ use Rattle.std.proofs.Common.{◌≡◌, ℕ, zero, suc, ◌-◌, ◌<◌, ℤ, 
 use Rattle.std.proofs.lemmas.List.{reverse-reverse, length-reverse}
 use Rattle.lie_datum.specs.Vectors.{Vector, entry}
 use Rattle.lie_datum.specs.RootDatum.{simple, IsSimpleIndex, is_simple}
-use Rattle.lie_datum.specs.RootList.{Roots, IsLoaded, root_of, height}
+use Rattle.lie_datum.specs.RootList.{RootDatum, IsLoaded, root_of, height}
 use Rattle.lie_datum.proofs.SignedRoots.{same_number}
 use Rattle.lie_weyl.specs.WeylElement.{moved, AreLetters, Spells, SameProduct, IsLength, IsLeastWord}
 use Rattle.lie_weyl.specs.Descents.{IsLeastOf, AreHeights}
@@ -12,7 +12,7 @@ use Rattle.lie_weyl.proofs.Linearity.{spelled_same}
 use Rattle.lie_weyl.proofs.LengthLemmas.{length_same, length_le, length_reverse}
 
 -- the same product, the same element
-pub respelled : (d : Roots) (w v : List ℕ) (images : List ℤ) → Spells d w images → AreLetters d.base v → SameProduct d w v → Spells d v images
+pub respelled : (d : RootDatum) (w v : List ℕ) (images : List ℤ) → Spells d w images → AreLetters d.base v → SameProduct d w v → Spells d v images
 respelled d w v images s l e = record {
   letters = l;
   count = s.count;
@@ -21,7 +21,7 @@ respelled d w v images s l e = record {
 }
 
 -- the heights of the images are those of the word
-pub spelled_heights : (d : Roots) (w : List ℕ) (images : List ℤ) (heights : Vector) → Spells d w images → ((k : ℕ) → k < length images → entry heights k ≡ height (root_of d (get_or images k (pos 0)))) → AreHeights d w heights
+pub spelled_heights : (d : RootDatum) (w : List ℕ) (images : List ℤ) (heights : Vector) → Spells d w images → ((k : ℕ) → k < length images → entry heights k ≡ height (root_of d (get_or images k (pos 0)))) → AreHeights d w heights
 spelled_heights d w images heights s h i q =
     let a = q.0 in
     let b = q.1 in
@@ -34,7 +34,7 @@ same_list [] (y ∷ ys) n h = absurd (omega (arith, n))
 same_list (x ∷ xs) [] n h = absurd (omega (arith, n))
 same_list (x ∷ xs) (y ∷ ys) n h = let e = h zero (omega arith) in let f = same_list xs ys (omega (arith, n)) (λ k l. h (suc k) (omega (arith, l))) in cc
 
-module _ (d : Roots) (loaded : IsLoaded d) where
+module _ (d : RootDatum) (loaded : IsLoaded d) where
   -- a word has one list of images
   pub one_list : (w : List ℕ) (x y : List ℤ) → Spells d w x → Spells d w y → x ≡ y
   one_list w x y s t =

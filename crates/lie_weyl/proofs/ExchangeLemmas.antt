@@ -2,7 +2,7 @@
 use Rattle.std.proofs.Common.{◌≡◌, ℕ, zero, suc, List, [], ◌∷◌, ◌++◌, length, refl, sym, ap, ◌∙◌, arith, ◌⊎◌, inl, inr, ⊎_elim, length-append}
 use Rattle.lie_datum.specs.declared.root_pair.Root.{Root}
 use Rattle.lie_datum.specs.RootDatum.{simple, reflected, IsSimpleIndex, IsRoot, is_simple, is_reflected, IsPositive}
-use Rattle.lie_datum.specs.RootList.{Roots, IsLoaded}
+use Rattle.lie_datum.specs.RootList.{RootDatum, IsLoaded}
 use Rattle.lie_datum.specs.Laws.{reflected_in}
 use Rattle.lie_datum.proofs.Turns.{turn_moves, reflected_in_simple}
 use Rattle.lie_datum.proofs.LoadedLaws.{short, simple_or, positive_dec}
@@ -10,7 +10,7 @@ use Rattle.lie_weyl.specs.WeylElement.{moved, SameProduct}
 use Rattle.lie_weyl.proofs.Words.{IsWord, letter, IsRoot-moved, lengths, moved-append, twice}
 use Rattle.lie_weyl.proofs.Signs.{simple_up}
 
-module _ (d : Roots) (loaded : IsLoaded d) where
+module _ (d : RootDatum) (loaded : IsLoaded d) where
   -- a word carries the reflection in r to the reflection in its image
   moved-turned : (w : List ℕ) (r t : Root) → IsWord d.base w → IsRoot d.base r → IsRoot d.base t → moved d.base w (reflected_in d.base r t) ≡ reflected_in d.base (moved d.base w r) (moved d.base w t)
   moved-turned [] r t h p q = refl

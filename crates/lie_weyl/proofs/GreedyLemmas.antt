@@ -2,7 +2,7 @@
 use Rattle.std.proofs.Common.{ℕ, List, [], ◌∷◌, ◌++◌, reverse, sym, ap, subst, ◌∙◌}
 use Rattle.std.proofs.lemmas.List.{append_assoc, append-nil, reverse-reverse}
 use Rattle.lie_datum.specs.RootDatum.{simple, is_simple}
-use Rattle.lie_datum.specs.RootList.{Roots, IsLoaded}
+use Rattle.lie_datum.specs.RootList.{RootDatum, IsLoaded}
 use Rattle.lie_datum.proofs.LoadedLaws.{not_both}
 use Rattle.lie_weyl.specs.WeylElement.{moved, SameProduct}
 use Rattle.lie_weyl.specs.Descents.{IsLeastOf}
@@ -11,7 +11,7 @@ use Rattle.lie_weyl.proofs.Words.{IsWord, empty, letter, IsWord-reverse, IsRoot-
 use Rattle.lie_weyl.proofs.LengthLemmas.{length_same, length_empty}
 use Rattle.lie_weyl.proofs.DescentLemmas.{AreDescents, least_of_inverse}
 
-module _ (d : Roots) (loaded : IsLoaded d) where
+module _ (d : RootDatum) (loaded : IsLoaded d) where
   greedy_descents : (w p : List ℕ) → IsWord d.base w → IsGreedyWord d w p → AreDescents d (reverse w) p × SameProduct d (reverse w ++ p) []
   greedy_descents w [] h e = (tt, (λ r m. ap (λ v. moved d.base v r) (append-nil (reverse w)) ∙ reverse_same d loaded w [] h empty e r m))
   greedy_descents w (i ∷ p) h (f, e) =

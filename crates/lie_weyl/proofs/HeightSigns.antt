@@ -5,7 +5,7 @@ use Rattle.std.proofs.lemmas.List.{get_or_default}
 use Rattle.lie_datum.specs.declared.root_pair.Root.{Root}
 use Rattle.lie_datum.specs.Vectors.{Vector, times, entry, total}
 use Rattle.lie_datum.specs.RootDatum.{rank, simple, reflected, opposite, IsSimpleIndex, IsRoot, is_simple, IsPositive, IsWithin}
-use Rattle.lie_datum.specs.RootList.{Roots, IsLoaded, height}
+use Rattle.lie_datum.specs.RootList.{RootDatum, IsLoaded, height}
 use Rattle.lie_base.proofs.Whole.{mul-add, mul-one}
 use Rattle.lie_base.proofs.RingSolver.{ring, var, num, ◌⊗◌}
 use Rattle.lie_datum.proofs.Entries.{within_or_past}
@@ -44,7 +44,7 @@ total_within (a ∷ v) h =
     let z = abs_add a (total (λ c. c) v) in
     omega (arith, x, y, z)
 
-module _ (d : Roots) (loaded : IsLoaded d) where
+module _ (d : RootDatum) (loaded : IsLoaded d) where
   pub height_negative : (r : Root) → IsRoot d.base r → ¬ IsPositive r → height r <ℤ pos 0
   height_negative r p n =
       let h = height_positive d loaded (opposite r) (opposite_root d loaded r p) (opposite_positive r.coeffs (negative_from d loaded r p n)) in

@@ -11,7 +11,7 @@ use Rattle.lie_datum.specs.RootDatum.{simple, IsSimpleIndex, IsRoot, rank, IsWit
 use Rattle.lie_datum.specs.Numbers.{number_at}
 use Rattle.lie_datum.specs.Laws.{SimplesFirst}
 use Rattle.lie_datum.proofs.NumberLemmas.{within, numbered_at, root_at}
-use Rattle.lie_datum.specs.RootList.{Roots, IsLoaded, IsNumber, root_of, NamesRoot}
+use Rattle.lie_datum.specs.RootList.{RootDatum, IsLoaded, IsNumber, root_of, NamesRoot}
 use Rattle.lie_datum.proofs.SignedRoots.{root_is, same_coeffs}
 use Rattle.lie_weyl.specs.Padding.{IsPadded}
 use Rattle.lie_weyl.specs.WeylElement.{moved, Spells, AreLetters}
@@ -22,7 +22,7 @@ use Rattle.lie_weyl.proofs.Words.{IsWord, lengths, IsRoot-moved}
 use Rattle.lie_weyl.proofs.Linearity.{linear_image}
 
 -- ---- what a look-up by coefficients answers
-module _ (d : Roots) (loaded : IsLoaded d) (r : Root) (root : IsRoot d.base r) where
+module _ (d : RootDatum) (loaded : IsLoaded d) (r : Root) (root : IsRoot d.base r) where
   pub named_some : (v : Vector) (o : Option ℤ) → r.coeffs ≡ v → NamesRoot d (λ s. s.coeffs ≡ v) o → IsSome o
   named_some v None e h = absurd (h r root e)
   named_some v (Some k) e h = refl
@@ -35,12 +35,12 @@ module _ (d : Roots) (loaded : IsLoaded d) (r : Root) (root : IsRoot d.base r) w
 
 -- ---- the simple roots stand first
 -- the number at the place of a simple root
-pub record IsSimpleNumber (d : Roots) (i : ℕ) : Type 0 where
+pub record IsSimpleNumber (d : RootDatum) (i : ℕ) : Type 0 where
   pub place : i - 1 < length d.positive
   pub number : IsNumber d (number_at (length d.positive) (i - 1))
   pub root : root_of d (number_at (length d.positive) (i - 1)) ≡ simple i
 
-pub simple_number : (d : Roots) → SimplesFirst d → (i : ℕ) → IsSimpleIndex d.base i → IsSimpleNumber d i
+pub simple_number : (d : RootDatum) → SimplesFirst d → (i : ℕ) → IsSimpleIndex d.base i → IsSimpleNumber d i
 simple_number d first zero s = absurd (omega (arith, s.0))
 simple_number d first (suc i) s =
     let e = first (suc i) s in
@@ -57,16 +57,16 @@ simple_number d first (suc i) s =
 
 -- ---- images one by one
 -- z is the number of the image of a_(j + 1)
-pub record IsImage (d : Roots) (w : List ℕ) (z : ℤ) (j : ℕ) : Type 0 where
+pub record IsImage (d : RootDatum) (w : List ℕ) (z : ℤ) (j : ℕ) : Type 0 where
   pub number : IsNumber d z
   pub root : root_of d z ≡ moved d.base w (simple (suc j))
 
 -- z is the number of a root to which P leads from the root of x
-pub record IsStep (d : Roots) (P : Root → Root → Type 0) (x z : ℤ) : Type 0 where
+pub record IsStep (d : RootDatum) (P : Root → Root → Type 0) (x z : ℤ) : Type 0 where
   pub number : IsNumber d z
   pub step : P (root_of d x) (root_of d z)
 
-module _ (d : Roots) (l : ℕ) (images : List ℤ) (low : l ≤ 8) (places : length images ≡ 8) where
+module _ (d : RootDatum) (l : ℕ) (images : List ℤ) (low : l ≤ 8) (places : length images ≡ 8) where
   taken : length (take l images) ≡ l
   taken = length-take l images ∙ omega (arith, low, places)
 
@@ -114,12 +114,12 @@ pub behind_more : {A : Type 0} (xs old : List A) (z : A) (k : ℕ) (y : A) → (
 behind_more xs old z k y h j l = get_or-set_other xs k j z y (λ e. absurd (omega (arith, l, e))) ∙ h j (omega (arith, l))
 
 -- the first k places are filled by steps from the old ones, and the rest are the old ones
-pub record IsFilled (d : Roots) (P : Root → Root → Type 0) (old new : List ℤ) (k : ℕ) : Type 0 where
+pub record IsFilled (d : RootDatum) (P : Root → Root → Type 0) (old new : List ℤ) (k : ℕ) : Type 0 where
   pub places : length new ≡ 8
   pub done : (j : ℕ) → j < k → IsStep d P (get_or old j (pos 1)) (get_or new j (pos 1))
   pub rest : (j : ℕ) → k ≤ j → get_or new j (pos 1) ≡ get_or old j (pos 1)
 
-module _ (d : Roots) (P : Root → Root → Type 0) (old : List ℤ) where
+module _ (d : RootDatum) (P : Root → Root → Type 0) (old : List ℤ) where
   pub filled_none : length old ≡ 8 → IsFilled d P old old 0
   filled_none p = record { places = p; done = λ j l. absurd (omega (arith, l)); rest = λ j l. refl }
 
@@ -131,7 +131,7 @@ module _ (d : Roots) (P : Root → Root → Type 0) (old : List ℤ) where
   }
 
 -- filled places behind which the old ones are unused
-pub filled_padded : (d : Roots) (P : Root → Root → Type 0) (old new : List ℤ) (l k : ℕ) → IsPadded (record { l = l; images = old }) → l ≤ k → k ≤ l → IsFilled d P old new k → IsPadded (record { l = l; images = new })
+pub filled_padded : (d : RootDatum) (P : Root → Root → Type 0) (old new : List ℤ) (l k : ℕ) → IsPadded (record { l = l; images = old }) → l ≤ k → k ≤ l → IsFilled d P old new k → IsPadded (record { l = l; images = new })
 filled_padded d P old new l k p a b f = record {
   count = p.count;
   places = f.places;
@@ -153,7 +153,7 @@ kept P vs v k l h w j =
     other n = subst P (sym (get_or-set_other vs k j v [] n)) (h j)
 
 -- the coefficients of an image are the combination of those of the images of the simple roots
-pub combined_image : (d : Roots) → IsLoaded d → (w : List ℕ) → IsWord d.base w → (vs : List Vector) → length vs ≡ 8 → All (λ v. length v ≡ 8) vs →
+pub combined_image : (d : RootDatum) → IsLoaded d → (w : List ℕ) → IsWord d.base w → (vs : List Vector) → length vs ≡ 8 → All (λ v. length v ≡ 8) vs →
     ((i : ℕ) → IsSimpleIndex d.base i → get_or vs (i - 1) [] ≡ (moved d.base w (simple i)).coeffs) → (r : Root) → IsRoot d.base r → (moved d.base w r).coeffs ≡ combination r.coeffs vs
 combined_image d loaded w h vs count long at r p =
     let low = short d loaded in
@@ -165,12 +165,12 @@ combined_image d loaded w h vs count long at r p =
     ∙ sym (entry-combination r.coeffs vs j))
 
 -- the vectors of the first k images, and zeros behind them
-abbrev pub AreCoeffs : Roots → List ℤ → List Vector → ℕ → Type 0
+abbrev pub AreCoeffs : RootDatum → List ℤ → List Vector → ℕ → Type 0
 AreCoeffs d images vs k =
     (length vs ≡ 8) × All (λ v. length v ≡ 8) vs × ((j : ℕ) → IsWithin 100 (get_or vs j [])) × ((j : ℕ) → j < k → get_or vs j [] ≡ (root_of d (get_or images j (pos 1))).coeffs)
 
 -- one vector more
-pub coeffs_more : (d : Roots) (images : List ℤ) (vs : List Vector) (v : Vector) (k : ℕ) → k < 8 → length v ≡ 8 → IsWithin 100 v → v ≡ (root_of d (get_or images k (pos 1))).coeffs → AreCoeffs d images vs k → AreCoeffs d images (set vs k v) (k + 1)
+pub coeffs_more : (d : RootDatum) (images : List ℤ) (vs : List Vector) (v : Vector) (k : ℕ) → k < 8 → length v ≡ 8 → IsWithin 100 v → v ≡ (root_of d (get_or images k (pos 1))).coeffs → AreCoeffs d images vs k → AreCoeffs d images (set vs k v) (k + 1)
 coeffs_more d images vs v k l long w e h =
     let p = h.0 in (
       length-set vs k v ∙ h.0,

@@ -7,8 +7,8 @@ use Rattle.std.proofs.lemmas.List.Sums.{count_by-le-length, sum_by-cons}
 use Rattle.lie_datum.specs.declared.root_pair.Root.{Root}
 use Rattle.lie_datum.specs.Vectors.{total}
 use Rattle.lie_datum.specs.RootDatum.{rank, simple, reflected, IsSimpleIndex, IsRoot, is_simple, is_reflected, IsPositive}
-use Rattle.lie_datum.specs.RootList.{Roots, IsLoaded}
-use Rattle.lie_base.proofs.Members.{In, here, there, without, total-without, in_without, from_without, IsSimpleList-without, total_permuted}
+use Rattle.lie_datum.specs.RootList.{RootDatum, IsLoaded}
+use Rattle.lie_base.proofs.Members.{In, here, there, without, total-without, in_without, from_without, HasNoRepeats-without, total_permuted}
 use Rattle.lie_datum.proofs.LoadedLaws.{positive_in, positive_only, stays, sorted_simple, positive_dec}
 use Rattle.lie_weyl.specs.WeylElement.{moved, SameProduct, is_negative, word_length}
 use Rattle.lie_weyl.proofs.Words.{IsWord, empty, letter, IsWord-append, one_letter, IsWord-reverse, reverse-cons, IsRoot-moved, moved-append, reverse_same, twice}
@@ -41,7 +41,7 @@ count_none p (x ∷ xs) h =
     let rest = count_none p xs (λ y m. h y (there m)) in
     count-cons p x xs ∙ ap (λ (b : Bool). cond b 1 0 + count_by p xs) (h x (here refl)) ∙ omega (arith, rest)
 
-module _ (d : Roots) (loaded : IsLoaded d) where
+module _ (d : RootDatum) (loaded : IsLoaded d) where
   -- words of one product have one length
   pub length_same : (w v : List ℕ) → SameProduct d w v → word_length d w ≡ word_length d v
   length_same w v h =
@@ -80,7 +80,7 @@ module _ (d : Roots) (loaded : IsLoaded d) where
         let once = sorted_simple ps loaded.listed.sorted in
         let p = positive_in d loaded (simple i) (is_simple i s) (simple_up d loaded i s) in
         let qs = without p in
-        let a = IsSimpleList-without ps p once in
+        let a = HasNoRepeats-without ps p once in
         let root = λ (t : Root) (m : In t qs). positive_only d loaded t (from_without ps p t m) in
         let turn : total (ones f) qs ≡ total (λ t. ones g (reflected d.base i t)) qs = same_total qs in
         let permuted = total_permuted (reflected d.base i) (ones g) qs a.1

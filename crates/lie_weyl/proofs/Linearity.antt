@@ -3,7 +3,7 @@ use Rattle.std.proofs.Common.{◌≡◌, ℕ, zero, suc, ◌-◌, ◌≤◌, ℤ
 use Rattle.lie_datum.specs.declared.root_pair.Root.{Root}
 use Rattle.lie_datum.specs.Vectors.{Vector, pairing, plus, times, unit, entry}
 use Rattle.lie_datum.specs.RootDatum.{Base, rank, vector, simple_coroot, simple, reflected, IsSimpleIndex, IsRoot, is_simple, is_reflected}
-use Rattle.lie_datum.specs.RootList.{Roots, IsLoaded}
+use Rattle.lie_datum.specs.RootList.{RootDatum, IsLoaded}
 use Rattle.lie_base.proofs.RingSolver.{ring, var, num, neg, ◌⊕◌, ◌⊗◌}
 use Rattle.lie_datum.proofs.Entries.{entry-plus, entry-times, length-plus, length-times, length-unit, same_entries}
 use Rattle.lie_datum.proofs.Roots.{HasLengths, entry-moved, length-moved, simple_vector}
@@ -23,7 +23,7 @@ IsShift x y z k = x.coeffs ≡ plus y.coeffs (times k z.coeffs)
 abbrev pub turn : Base → ℕ → Root → ℤ
 turn b i r = neg_ℤ (pairing (vector b r) (simple_coroot b i))
 
-module _ (d : Roots) (loaded : IsLoaded d) where
+module _ (d : RootDatum) (loaded : IsLoaded d) where
   reflected_shift : (j : ℕ) (x y z : Root) (k : ℤ) → HasLengths x → HasLengths y → HasLengths z → IsShift x y z k → IsShift (reflected d.base j x) (reflected d.base j y) (reflected d.base j z) k
   reflected_shift j x y z k p q r h =
       let a = simple_coroot d.base j in

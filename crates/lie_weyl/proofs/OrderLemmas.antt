@@ -7,7 +7,7 @@ use Rattle.std.proofs.lemmas.Bool.{cases_eq}
 use Rattle.lie_datum.specs.declared.root_pair.Root.{Root}
 use Rattle.lie_datum.specs.Vectors.{Vector, pairing, plus, times, unit, entry}
 use Rattle.lie_datum.specs.RootDatum.{vector, simple_root, simple_coroot, cartan, root_pairing, simple, reflected, IsSimpleIndex, IsRoot, is_simple, IsPositive}
-use Rattle.lie_datum.specs.RootList.{Roots, IsLoaded}
+use Rattle.lie_datum.specs.RootList.{RootDatum, IsLoaded}
 use Rattle.lie_base.proofs.RingSolver.{ring, var, num, neg, ◌⊕◌, ◌⊗◌}
 use Rattle.lie_datum.proofs.Entries.{entry-plus, entry-times, entry-unit, length-plus, length-times, length-unit, same_entries}
 use Rattle.lie_datum.proofs.Roots.{entry-moved, simple_vector, simple_covector}
@@ -57,7 +57,7 @@ off_at p q (suc n) k h a b =
 minus_of : (z : ℤ) → z ≤ℤ pos 0 → z ≡ neg_ℤ (pos (unsigned_abs z))
 minus_of z h = omega (arith, ints, h)
 
-module _ (d : Roots) (loaded : IsLoaded d) where
+module _ (d : RootDatum) (loaded : IsLoaded d) where
   -- a root with a coefficient 1 is positive
   positive_at : (r : Root) (k : ℕ) → IsRoot d.base r → entry r.coeffs k ≡ pos 1 → IsPositive r
   positive_at r k p e = ⊎_elim (λ h. h) (λ n. (let s = at_entry (λ c. c ≤ℤ pos 0) (omega (arith, ints)) r.coeffs n k in absurd (omega (arith, ints, s, e)))) (positive_or d loaded r p)
@@ -264,7 +264,7 @@ module _ (d : Roots) (loaded : IsLoaded d) where
         (omega (arith, ints, product, product_is)) x y)
 
 -- the order of s_i s_j, from its indices
-pub order_of_product : (d : Roots) → IsLoaded d → (i j : ℕ) → IsSimpleIndex d.base i → IsSimpleIndex d.base j → i ≢ j → IsOrder d (i ∷ j ∷ []) (order_for (cartan d.base i j *ℤ cartan d.base j i))
+pub order_of_product : (d : RootDatum) → IsLoaded d → (i j : ℕ) → IsSimpleIndex d.base i → IsSimpleIndex d.base j → i ≢ j → IsOrder d (i ∷ j ∷ []) (order_for (cartan d.base i j *ℤ cartan d.base j i))
 order_of_product d loaded zero j s t h = absurd (let a = s.0 in omega (arith, a))
 order_of_product d loaded (suc i) zero s t h = absurd (let a = t.0 in omega (arith, a))
 order_of_product d loaded (suc i) (suc j) s t h = order d loaded i j s t (λ e. h (ap suc e))

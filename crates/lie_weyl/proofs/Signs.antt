@@ -8,7 +8,7 @@ use Rattle.std.specs.List.{list_any}
 use Rattle.lie_datum.specs.declared.root_pair.Root.{Root}
 use Rattle.lie_datum.specs.Vectors.{Vector, entry}
 use Rattle.lie_datum.specs.RootDatum.{simple, reflected, IsSimpleIndex, IsRoot, IsPositive, IsNegative, is_simple}
-use Rattle.lie_datum.specs.RootList.{Roots, IsLoaded}
+use Rattle.lie_datum.specs.RootList.{RootDatum, IsLoaded}
 use Rattle.lie_datum.proofs.LoadedLaws.{positive_or, not_both, simple_is_positive, at_entry}
 use Rattle.lie_weyl.specs.WeylElement.{moved, is_negative}
 use Rattle.lie_weyl.proofs.Words.{IsWord, IsRoot-moved}
@@ -56,7 +56,7 @@ test_positive r e = from_entries r (none_negative r.coeffs e)
 pub negative_test : (r : Root) → ¬ IsPositive r → is_negative r ≡ true
 negative_test r h = ⊎_elim (λ e. e) (λ e. absurd (h (test_positive r e))) (either (is_negative r))
 
-module _ (d : Roots) (loaded : IsLoaded d) where
+module _ (d : RootDatum) (loaded : IsLoaded d) where
   pub negative_from : (r : Root) → IsRoot d.base r → ¬ IsPositive r → IsNegative r
   negative_from r p n = ⊎_elim (λ h. absurd (n h)) (λ h. h) (positive_or d loaded r p)
 

@@ -3,7 +3,7 @@ use Rattle.std.proofs.Common.{◌≡◌, ℕ, zero, suc, List, [], ◌∷◌, �
 use Rattle.std.proofs.lemmas.List.{reverse-append, reverse-reverse}
 use Rattle.lie_datum.specs.declared.root_pair.Root.{Root}
 use Rattle.lie_datum.specs.RootDatum.{Base, reflected, IsSimpleIndex, IsRoot, is_reflected}
-use Rattle.lie_datum.specs.RootList.{Roots, IsLoaded}
+use Rattle.lie_datum.specs.RootList.{RootDatum, IsLoaded}
 use Rattle.lie_datum.proofs.Roots.{root_lengths, HasLengths, reflected_twice}
 use Rattle.lie_datum.proofs.LoadedLaws.{short}
 use Rattle.lie_weyl.specs.WeylElement.{moved, AreLetters, SameProduct}
@@ -41,7 +41,7 @@ pub moved-append : (b : Base) (w v : List ℕ) (r : Root) → moved b (w ++ v) r
 moved-append b [] v r = refl
 moved-append b (i ∷ w) v r = ap (reflected b i) (moved-append b w v r)
 
-module _ (d : Roots) (loaded : IsLoaded d) where
+module _ (d : RootDatum) (loaded : IsLoaded d) where
   pub IsRoot-moved : (w : List ℕ) (r : Root) → IsWord d.base w → IsRoot d.base r → IsRoot d.base (moved d.base w r)
   IsRoot-moved [] r h p = p
   IsRoot-moved (i ∷ w) r (letter s h) p = is_reflected i (moved d.base w r) s (IsRoot-moved w r h p)

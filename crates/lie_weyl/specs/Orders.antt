@@ -2,7 +2,7 @@
 -- Source: any text on reflection groups, as that of Humphreys.
 use Rattle.std.specs.Prelude.{◌≢◌, ◌≤◌, ◌<◌, ℕ, zero, suc, ℤ, pos, negsuc, ◌*ℤ◌, List, [], ◌∷◌, ◌++◌}
 use Rattle.lie_datum.specs.RootDatum.{cartan, IsSimpleIndex}
-use Rattle.lie_datum.specs.RootList.{Roots, IsLoaded}
+use Rattle.lie_datum.specs.RootList.{RootDatum, IsLoaded}
 use Rattle.lie_weyl.specs.WeylElement.{SameProduct}
 
 -- the word n times
@@ -11,7 +11,7 @@ repeated zero w = []
 repeated (suc n) w = w ++ repeated n w
 
 -- the m-th power of the product of w is 1, and no lower one is
-pub record IsOrder (d : Roots) (w : List ℕ) (m : ℕ) : Type 0 where
+pub record IsOrder (d : RootDatum) (w : List ℕ) (m : ℕ) : Type 0 where
   pub some : 1 ≤ m
   pub one : SameProduct d (repeated m w) []
   pub least : (k : ℕ) → 1 ≤ k → k < m → ¬ SameProduct d (repeated k w) []
@@ -28,5 +28,5 @@ order_for (negsuc n) = 0
 -- for different i and j the order of s_i s_j is 2, 3, 4, 6 where c_ij c_ji is 0, 1, 2, 3
 abbrev pub OrdersOfProducts : Type 0
 OrdersOfProducts =
-    (d : Roots) → IsLoaded d → (i j : ℕ) → IsSimpleIndex d.base i → IsSimpleIndex d.base j → i ≢ j →
+    (d : RootDatum) → IsLoaded d → (i j : ℕ) → IsSimpleIndex d.base i → IsSimpleIndex d.base j → i ≢ j →
     IsOrder d (i ∷ j ∷ []) (order_for (cartan d.base i j *ℤ cartan d.base j i))

@@ -13,7 +13,7 @@ use Rattle.std.specs.Cmp.Lexicographic.{slice_cmp}
 use Rattle.std.specs.declared.cmp.Ordering.TheVariants.{Greater}
 use Rattle.lie_datum.specs.declared.root_pair.Root.{Root}
 use Rattle.lie_datum.specs.RootDatum.{Base, rank, simple, reflected, IsSimpleIndex, IsRoot}
-use Rattle.lie_datum.specs.RootList.{Roots, root_of, IsNumber}
+use Rattle.lie_datum.specs.RootList.{RootDatum, root_of, IsNumber}
 
 -- the image of a root under s_(i_1) .. s_(i_n)
 abbrev pub moved : Base → List ℕ → Root → Root
@@ -25,18 +25,18 @@ abbrev pub AreLetters : Base → List ℕ → Type 0
 AreLetters b w = All (IsSimpleIndex b) w
 
 -- two words have one product
-abbrev pub SameProduct : Roots → List ℕ → List ℕ → Type 0
+abbrev pub SameProduct : RootDatum → List ℕ → List ℕ → Type 0
 SameProduct d w v = (r : Root) → IsRoot d.base r → moved d.base w r ≡ moved d.base v r
 
 -- w is a word of the element that sends the simple roots to these images
-pub record Spells (d : Roots) (w : List ℕ) (images : List ℤ) : Type 0 where
+pub record Spells (d : RootDatum) (w : List ℕ) (images : List ℤ) : Type 0 where
   pub letters : AreLetters d.base w
   pub count : length images ≡ rank d.base
   pub numbers : All (IsNumber d) images
   pub images_are : (i : ℕ) → IsSimpleIndex d.base i → root_of d (slice_index_or images (i - 1) (pos 0)) ≡ moved d.base w (simple i)
 
 -- some product of simple reflections has these images
-abbrev pub IsElement : Roots → List ℤ → Type 0
+abbrev pub IsElement : RootDatum → List ℤ → Type 0
 IsElement d images = (w : List ℕ) × Spells d w images
 
 -- some coefficient is below 0
@@ -44,17 +44,17 @@ abbrev pub is_negative : Root → Bool
 is_negative r = list_any (λ c. int_lt c (pos 0)) r.coeffs
 
 -- the number of positive roots that the word makes negative
-abbrev pub word_length : Roots → List ℕ → ℕ
+abbrev pub word_length : RootDatum → List ℕ → ℕ
 word_length d w = count_by (λ r. is_negative (moved d.base w r)) d.positive
 
 -- n is the number of positive roots that the element makes negative, and the least number of letters of its words
-pub record IsLength (d : Roots) (images : List ℤ) (n : ℕ) : Type 0 where
+pub record IsLength (d : RootDatum) (images : List ℤ) (n : ℕ) : Type 0 where
   pub counted : (w : List ℕ) → Spells d w images → n ≡ word_length d w
   pub reached : (w : List ℕ) × Spells d w images × (length w ≡ n)
   pub least : (w : List ℕ) → Spells d w images → n ≤ length w
 
 -- w is the lexicographically least of the shortest words of the element
-pub record IsLeastWord (d : Roots) (w : List ℕ) (images : List ℤ) : Type 0 where
+pub record IsLeastWord (d : RootDatum) (w : List ℕ) (images : List ℤ) : Type 0 where
   pub spells : Spells d w images
   pub shortest : length w ≡ word_length d w
   pub least : (v : List ℕ) → Spells d v images → length v ≡ length w → slice_cmp nat_cmp w v ≢ Greater

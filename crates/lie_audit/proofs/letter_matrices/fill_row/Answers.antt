@@ -8,7 +8,7 @@ use Rattle.lie_audit.proofs.letter_matrices.fill_row.Goals as goal
 
 pub loop-col-preserved : goal.loop-col-preserved
 loop-col-preserved c =
-    let v = c.args.module.now in
+    let v = c.args.space.now in
     let row = c.args.row in
     let col = c.loop-col.col in
     let left : col < dimension v = let a = c.loop-col-test.true in let b = c.dim-col-end.ensures.value in omega (arith, a, b) in
@@ -17,6 +17,6 @@ loop-col-preserved c =
 
 pub returns : goal.returns
 returns c =
-    let v = c.args.module.now in
+    let v = c.args.space.now in
     let last : c.loop-col.col ≡ dimension v = let a = c.loop-col-test.false in let b = c.dim-col-end.ensures.value in let h = c.loop-col.auto.col-end in omega (arith, a, b, h) in
     c.loop-col.invariant ∙ ap (partial_table 0 (dimension v) (dimension v) (root_element_entry (field_ring c.args.field.now) v c.args.r c.args.a) c.args.row) last

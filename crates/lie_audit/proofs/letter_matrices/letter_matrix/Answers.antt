@@ -8,7 +8,7 @@ pub root_matrix-requires-clause-r : goal.root_matrix-requires-clause-r
 root_matrix-requires-clause-r c =
     let d = c.args.datum.now in
     let within = (place_within d c.in-X.r (for-X c.args.field.now d c.args.letter.now c.requires.letter c.in-X.r c.in-X.a c.in-X.is).0).1 in
-    let same = c.requires.module.positive in
+    let same = c.requires.space.positive in
     omega (arith, within, same)
 
 pub root_matrix-requires-clause-a : goal.root_matrix-requires-clause-a

@@ -5,4 +5,4 @@ use Rattle.lie_const.specs.Modules.{dimension, root_element_entry}
 use Rattle.lie_audit.proofs.letter_matrices.root_matrix.Given as goal
 
 abbrev pub invariant-loop-row : goal.invariant-loop-row
-invariant-loop-row l = l.matrix ≡ partial_table 0 (dimension l.module) (dimension l.module) (root_element_entry (field_ring l.field) l.module l.r l.a) l.row 0
+invariant-loop-row l = l.matrix ≡ partial_table 0 (dimension l.space) (dimension l.space) (root_element_entry (field_ring l.field) l.space l.r l.a) l.row 0

@@ -5,4 +5,4 @@ use Rattle.lie_audit.specs.WordMatrix.{weight_value}
 use Rattle.lie_audit.proofs.letter_matrices.torus_matrix.Given as goal
 
 abbrev pub invariant-loop-i : goal.invariant-loop-i
-invariant-loop-i l = l.matrix ≡ partial_table 0 (dimension l.module) (dimension l.module) (λ k j. cond (eqb k j) (weight_value l.field l.module l.t k) 0) l.i 0
+invariant-loop-i l = l.matrix ≡ partial_table 0 (dimension l.space) (dimension l.space) (λ k j. cond (eqb k j) (weight_value l.field l.space l.t k) 0) l.i 0

@@ -7,5 +7,5 @@ pub returns : goal.returns
 returns c =
     let f = c.args.field.now in
     subst (λ M. IfOk c.conjugated.result (λ m. m ≡ M))
-    (weyl-three f c.args.module.now c.simple.result c.args.i c.in_ok-one.one c.neg.result c.simple.ensures.value (c.in_ok-one.ensures.value) (c.neg.ensures.value ∙ ap (neg f.given) c.in_ok-one.ensures.value))
+    (weyl-three f c.args.space.now c.simple.result c.args.i c.in_ok-one.one c.neg.result c.simple.ensures.value (c.in_ok-one.ensures.value) (c.neg.ensures.value ∙ ap (neg f.given) c.in_ok-one.ensures.value))
     c.conjugated.ensures

@@ -7,15 +7,15 @@ use mir.Syntax.{w128, w8}
 use Rattle.lie_datum.specs.Numbers.{place}
 use Rattle.lie_datum.proofs.VectorLemmas.{plain}
 use Rattle.lie_const.specs.Signs.{sign_entry}
-use Rattle.lie_audit.specs.SignParts.{IsUnit}
+use Rattle.lie_audit.specs.SignParts.{IsSign}
 use Rattle.lie_audit.proofs.TestLemmas.{good_from_asked, asked_from_good, more_tested, other_is}
 use Rattle.lie_audit.proofs.testing.add_sign.Goals as goal
 
 -- a sign fits eight bits
-unit_fits : (z : ℤ) → IsUnit z → FitsSigned w8 z
+unit_fits : (z : ℤ) → IsSign z → FitsSigned w8 z
 unit_fits z u = fits_signed_from_abs w8 z (small u)
   where
-    small : IsUnit z → unsigned_abs z < 128
+    small : IsSign z → unsigned_abs z < 128
     small (inl e) = subst (λ x. unsigned_abs x < 128) (sym e) (omega arith)
     small (inr e) = subst (λ x. unsigned_abs x < 128) (sym e) (omega arith)
 

@@ -13,20 +13,20 @@ letter_matrix-requires-clause-letter c =
 pub mul-requires-clause-shape : goal.mul-requires-clause-shape
 mul-requires-clause-shape c =
     let f = c.args.field.now in
-    let v = c.args.module.now in
+    let v = c.args.space.now in
     (word-square-of f v c.loop-letter.matrix (take c.loop-letter.letter-index c.letters-letters.result.now) c.loop-letter.invariant).width
     ∙ sym (letter-square-of f v c.in_ok-factor.factor c.letter-item.result c.in_ok-factor.ensures).height
 
 pub mul-requires-clause-elem : goal.mul-requires-clause-elem
-mul-requires-clause-elem c = (word-square-of c.args.field.now c.args.module.now c.loop-letter.matrix (take c.loop-letter.letter-index c.letters-letters.result.now) c.loop-letter.invariant).elem
+mul-requires-clause-elem c = (word-square-of c.args.field.now c.args.space.now c.loop-letter.matrix (take c.loop-letter.letter-index c.letters-letters.result.now) c.loop-letter.invariant).elem
 
 pub mul-requires-clause-b_elem : goal.mul-requires-clause-b_elem
-mul-requires-clause-b_elem c = (letter-square-of c.args.field.now c.args.module.now c.in_ok-factor.factor c.letter-item.result c.in_ok-factor.ensures).elem
+mul-requires-clause-b_elem c = (letter-square-of c.args.field.now c.args.space.now c.in_ok-factor.factor c.letter-item.result c.in_ok-factor.ensures).elem
 
 pub loop-letter-preserved : goal.loop-letter-preserved
 loop-letter-preserved c =
     c.in_ok-matrix-2.ensures.value
-    ∙ word-next c.args.field.now c.args.module.now c.letters-letters.result.now c.loop-letter.letter-index c.letter-item.result c.loop-letter.matrix c.in_ok-factor.factor c.loop-letter-test.true c.letter-item.is c.loop-letter.invariant c.in_ok-factor.ensures
+    ∙ word-next c.args.field.now c.args.space.now c.letters-letters.result.now c.loop-letter.letter-index c.letter-item.result c.loop-letter.matrix c.in_ok-factor.factor c.loop-letter-test.true c.letter-item.is c.loop-letter.invariant c.in_ok-factor.ensures
 
 pub returns-clause-elem : goal.returns-clause-elem
-returns-clause-elem c = (word-square-of c.args.field.now c.args.module.now c.loop-letter.matrix (take c.loop-letter.letter-index c.letters-letters.result.now) c.loop-letter.invariant).elem
+returns-clause-elem c = (word-square-of c.args.field.now c.args.space.now c.loop-letter.matrix (take c.loop-letter.letter-index c.letters-letters.result.now) c.loop-letter.invariant).elem

@@ -2,7 +2,7 @@ use Rattle.std.proofs.Common.{◌+◌, ℤ, pos, neg_ℤ, ◌≡◌, ◌*ℤ◌,
 use Rattle.std.proofs.lemmas.Int.{to_z-of_z}
 use mir.Val.{to_z, of_z}
 use mir.Syntax.{w128}
-use Rattle.lie_datum.specs.RootList.{Roots, IsString, root_of}
+use Rattle.lie_datum.specs.RootList.{RootDatum, IsString, root_of}
 use Rattle.lie_const.specs.Filling.{IsUnitSolution, HasNoSolution}
 use Rattle.lie_const.proofs.StringLemmas.{string_short}
 use Rattle.lie_const.proofs.PutLemmas.{one_string}
@@ -15,7 +15,7 @@ pub signed_unit-requires-clause-unit : goal.signed_unit-requires-clause-unit
 signed_unit-requires-clause-unit c = let l = string_short c.args.datum.now c.loaded.ensures c.args.r c.args.s c.string.result.0 c.string.result.1 c.requires.r c.requires.s c.string.ensures in (omega arith, omega (arith, l))
 
 -- what solves the equation with the unit of this string solves it with that of every string
-solution : (d : Roots) (r s a e : ℤ) (p q : ℕ) → IsString d (root_of d r) (root_of d s) p q → (o : Option ℤ) →
+solution : (d : RootDatum) (r s a e : ℤ) (p q : ℕ) → IsString d (root_of d r) (root_of d s) p q → (o : Option ℤ) →
     MatchOption o (¬ (e ≡ pos (p + 1) *ℤ a) × ¬ (e ≡ neg_ℤ (pos (p + 1) *ℤ a))) (λ c. (c *ℤ a ≡ e) × ((c ≡ pos (p + 1)) ⊎ (c ≡ neg_ℤ (pos (p + 1))))) →
     MatchOption o (HasNoSolution d r s a e) (IsUnitSolution d r s a e)
 solution d r s a e p q t None h = λ i j u. (let k = one_string d r s p q i j t u in subst (λ n. ¬ (e ≡ pos (n + 1) *ℤ a) × ¬ (e ≡ neg_ℤ (pos (n + 1) *ℤ a))) k h)

@@ -5,4 +5,4 @@ use Rattle.lie_weight.proofs.completion.complete.Given as goal
 
 abbrev pub invariant-loop-height : goal.invariant-loop-height
 invariant-loop-height l =
-    IsPartly l.datum (eta_of l.signs) l.height 0 l.module × AreAllFactors l.datum l.module l.factors × (l.module.weights ≡ l.initial.module.weights)
+    IsPartly l.datum (eta_of l.signs) l.height 0 l.space × AreAllFactors l.datum l.space l.factors × (l.space.weights ≡ l.initial.space.weights)

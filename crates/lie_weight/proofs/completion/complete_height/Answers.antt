@@ -23,7 +23,7 @@ complete_root-requires-clause-partly c =
     let a = at_is (goal.at.complete_root-requires-clause-partly c).After-at-r in
     let f : SFits w32 c.height.result = search rules in
     let high : absolute_height d c.at-r.result ≡ c.args.height = sym (c.unsigned_abs.ensures.value ∙ ap unsigned_abs (to_z-of_z w32 c.height.result f ∙ c.height.ensures)) ∙ c.if-unsigned_abs-height.true in
-    partly_at d (eta_of c.args.signs.now) c.args.height c.loop-place.place c.loop-place.module c.at-r.result high a.place c.loop-place.invariant.0
+    partly_at d (eta_of c.args.signs.now) c.args.height c.loop-place.place c.loop-place.space c.at-r.result high a.place c.loop-place.invariant.0
 
 pub loop-place-preserved : goal.loop-place-preserved
 loop-place-preserved c =
@@ -32,7 +32,7 @@ loop-place-preserved c =
     let r = c.at-r.result in
     let h = c.args.height in
     let p = c.loop-place.place in
-    let v = c.loop-place.module in
+    let v = c.loop-place.space in
     let a = at_is (goal.at.loop-place-preserved c).After-at-r in
     let inv = c.loop-place.invariant in
     elim c.if-is_past.branch [
@@ -40,8 +40,8 @@ loop-place-preserved c =
           let f : SFits w32 w.height.result = search rules in
           let high : absolute_height d r ≡ h = sym (w.unsigned_abs.ensures.value ∙ ap unsigned_abs (to_z-of_z w32 w.height.result f ∙ w.height.ensures)) ∙ w.if-unsigned_abs-height.true in
           let e = w.in_ok-complete_root.ensures in
-          subst (λ (m : Module). IsPartly d eta h (p + 1) m × AreAllFactors d m c.args.factors.now × (m.weights ≡ c.args.module.now.weights)) (sym w.module-is)
-          (partly_after d eta h p w.complete_root.new.module r high a.place e.partly, e.factors, e.weights ∙ inv.2)
+          subst (λ (m : Module). IsPartly d eta h (p + 1) m × AreAllFactors d m c.args.factors.now × (m.weights ≡ c.args.space.now.weights)) (sym w.space-is)
+          (partly_after d eta h p w.complete_root.new.space r high a.place e.partly, e.factors, e.weights ∙ inv.2)
       | else-is_past w ↦
           let none : absolute_height d r ≡ h → (i : ℕ) (s : ℤ) → ¬ IsLowering d i r s =
           elim w.else-is_past.branch [
@@ -52,7 +52,7 @@ loop-place-preserved c =
             | else-is_past-via-else-is_past x ↦ λ high i s l.
                 (let t = c.is_past.ensures.1 l.past in let n = x.if-is_past.false in absurd (cc))
           ] in
-          subst (λ (m : Module). IsPartly d eta h (p + 1) m × AreAllFactors d m c.args.factors.now × (m.weights ≡ c.args.module.now.weights)) (sym w.module-is)
+          subst (λ (m : Module). IsPartly d eta h (p + 1) m × AreAllFactors d m c.args.factors.now × (m.weights ≡ c.args.space.now.weights)) (sym w.space-is)
           (partly_skip d eta h p v r a.number a.place none inv.0, inv.1, inv.2)
     ]
 
@@ -60,4 +60,4 @@ pub returns-clause-partly : goal.returns-clause-partly
 returns-clause-partly c =
     let t = c.loop-place-test.false in
     let m = c.m-positive.ensures.value in
-    partly_level c.args.datum.now (eta_of c.args.signs.now) c.args.height c.loop-place.place c.loop-place.module (omega (arith, t, m)) c.loop-place.invariant.0
+    partly_level c.args.datum.now (eta_of c.args.signs.now) c.args.height c.loop-place.place c.loop-place.space (omega (arith, t, m)) c.loop-place.invariant.0

@@ -5,4 +5,4 @@ use Rattle.lie_weight.proofs.completion.complete_height.Given as goal
 
 abbrev pub invariant-loop-place : goal.invariant-loop-place
 invariant-loop-place l =
-    IsPartly l.datum (eta_of l.signs) l.height l.place l.module × AreAllFactors l.datum l.module l.factors × (l.module.weights ≡ l.initial.module.weights)
+    IsPartly l.datum (eta_of l.signs) l.height l.place l.space × AreAllFactors l.datum l.space l.factors × (l.space.weights ≡ l.initial.space.weights)

@@ -16,7 +16,7 @@ use Rattle.lie_weight.proofs.CompletionLemmas.{partly_none, partly_new, factors_
 use Rattle.lie_weight.proofs.completion.complete_root.Goals as goal
 
 pub returns-in_default-clause-partly : goal.returns-in_default-clause-partly
-returns-in_default-clause-partly c = partly_none c.args.datum.now (eta_of c.args.signs.now) c.args.module.now c.args.r c.requires.number c.in_default.ensures c.requires.partly
+returns-in_default-clause-partly c = partly_none c.args.datum.now (eta_of c.args.signs.now) c.args.space.now c.args.r c.requires.number c.in_default.ensures c.requires.partly
 
 pub eta-sign-requires-clause-s : goal.eta-sign-requires-clause-s
 eta-sign-requires-clause-s c = let p = (place_within c.args.datum.now c.in-Some.lower.root c.in-Some.ensures.number).1 in let e = c.requires.signs.positive in omega (arith, p, e)
@@ -28,13 +28,13 @@ pub set_powers-requires-clause-r : goal.set_powers-requires-clause-r
 set_powers-requires-clause-r c = let p = (place_within c.args.datum.now c.args.r c.requires.number).1 in let e = c.requires.partly.steps.shape.positive in omega (arith, p, e)
 
 pub set_powers-requires-clause-powers : goal.set_powers-requires-clause-powers
-set_powers-requires-clause-powers c = keeps_powers (dimension c.args.module.now) (scaled integers (to_z w128 (of_z w128 c.eta-sign.result)) (product integers (product integers c.index-factors-lower.result.element (divided_power c.args.module.now c.in-Some.lower.root 1)) c.index-factors-lower.result.inverse)) c.in-Ok.powers.items c.requires.some c.in-Ok.ensures.keeps
+set_powers-requires-clause-powers c = keeps_powers (dimension c.args.space.now) (scaled integers (to_z w128 (of_z w128 c.eta-sign.result)) (product integers (product integers c.index-factors-lower.result.element (divided_power c.args.space.now c.in-Some.lower.root 1)) c.index-factors-lower.result.inverse)) c.in-Ok.powers.items c.requires.some c.in-Ok.ensures.keeps
 
 pub returns-in-Ok-clause-partly : goal.returns-in-Ok-clause-partly
 returns-in-Ok-clause-partly c =
     let d = c.args.datum.now in
     let eta = eta_of c.args.signs.now in
-    let v = c.args.module.now in
+    let v = c.args.space.now in
     let i = c.in-Some.lower.index in
     let s = c.in-Some.lower.root in
     let l = c.in-Some.ensures in
@@ -50,14 +50,14 @@ returns-in-Ok-clause-partly c =
 
 pub returns-in-Ok-clause-factors : goal.returns-in-Ok-clause-factors
 returns-in-Ok-clause-factors c =
-    let v = c.args.module.now in
+    let v = c.args.space.now in
     let single : IsSingle c.args.datum.now v = record { shape = c.requires.partly.steps.shape; single = c.requires.partly.single } in
     subst (λ u. AreAllFactors c.args.datum.now u c.args.factors.now) (sym c.set_powers.ensures) (factors_kept c.args.datum.now c.loaded.ensures v single c.args.r c.requires.number c.requires.past c.in-Ok.powers.items c.args.factors.now c.requires.factors)
 
 pub returns-in-Err-Wide-clause-fault : goal.returns-in-Err-Wide-clause-fault
 returns-in-Err-Wide-clause-fault c =
     let d = c.args.datum.now in
-    let v = c.args.module.now in
+    let v = c.args.space.now in
     let i = c.in-Some.lower.index in
     let s = c.in-Some.lower.root in
     let l = c.in-Some.ensures in

@@ -17,7 +17,7 @@ use Rattle.lie_weight.proofs.completion.conjugated_powers.Goals.{After-top}
 
 pub returns-then-top-eq0-clause-keeps : goal.returns-then-top-eq0-clause-keeps
 returns-then-top-eq0-clause-keeps c =
-    let v = c.args.module.now in
+    let v = c.args.space.now in
     let n = dimension v in
     let f = c.requires.factors in
     let none : length (divided_powers v c.args.s) ≤ 0 = let t = c.if-top-eq0.true in let e = c.top.ensures.value in omega (arith, t, e) in
@@ -27,7 +27,7 @@ returns-then-top-eq0-clause-keeps c =
 
 pub returns-then-top-eq0-clause-small : goal.returns-then-top-eq0-clause-small
 returns-then-top-eq0-clause-small c =
-    let v = c.args.module.now in
+    let v = c.args.space.now in
     let n = dimension v in
     let f = c.requires.factors in
     let none : length (divided_powers v c.args.s) ≤ 0 = let t = c.if-top-eq0.true in let e = c.top.ensures.value in omega (arith, t, e) in
@@ -41,7 +41,7 @@ returns-in-Err-clause-wide c e =
 
 pub returns-in-Ok-kept-clause-keeps : goal.returns-in-Ok-kept-clause-keeps
 returns-in-Ok-kept-clause-keeps c =
-    let v = c.args.module.now in
+    let v = c.args.space.now in
     let n = dimension v in
     let f = c.requires.factors in
     let w = c.args.factors.now in

@@ -8,7 +8,7 @@ pub loop-i-preserved : goal.loop-i-preserved
 loop-i-preserved c =
     let fs = c.loop-i.list.items in
     let y = c.in_ok-simple_factors.field-0 in
-    let v = c.args.module.now in
+    let v = c.args.space.now in
     let e = c.in_ok-push.ensures.items in
     let n = c.loop-i.invariant.0 in
     let each = member_push (λ k f. AreModuleFactors v (k + 1) f) fs y (λ k z l. c.loop-i.invariant.1 k z (omega (arith, l, n))) (subst (λ t. AreModuleFactors v (t + 1) y) (sym n) c.in_ok-simple_factors.ensures) in (
@@ -21,4 +21,4 @@ returns c =
     let t = c.loop-i-test.false in
     let a = c.loop-i.auto in
     let r = c.l-i-end.ensures in
-    all_factors_are c.args.datum.now c.args.module.now c.loop-i.list.items c.loop-i.i c.loop-i.invariant.0 (omega (arith, t, a, r)) c.loop-i.invariant.1
+    all_factors_are c.args.datum.now c.args.space.now c.loop-i.list.items c.loop-i.i c.loop-i.invariant.0 (omega (arith, t, a, r)) c.loop-i.invariant.1

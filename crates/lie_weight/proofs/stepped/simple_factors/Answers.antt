@@ -48,38 +48,38 @@ step_matrix-requires-2-clause-near c =
     let a = (goal.at.step_matrix-requires-2-clause-near c).After-at-simple in
     subst (λ t. IsWithin 100 (vector c.args.datum.now.base (root_of c.args.datum.now t))) (sym (opposite_is o)) (opposite_within c.args.datum.now c.loaded.ensures 100 (pos (c.args.i + 1)) (simple_number a) (simple_near a))
 
-up_is : (c : In_ok-up) → c.in_ok-up.up ≡ step_matrix c.args.datum.now c.args.module.now.weights (pos (c.args.i + 1))
+up_is : (c : In_ok-up) → c.in_ok-up.up ≡ step_matrix c.args.datum.now c.args.space.now.weights (pos (c.args.i + 1))
 up_is c = c.in_ok-up.ensures.value ∙ ap (λ (ws : List Vector). step_matrix c.args.datum.now ws c.at-simple.result) c.weights.ensures
-    ∙ ap (step_matrix c.args.datum.now c.args.module.now.weights) (place_simple c.args.datum.now c.loaded.ensures c.args.i c.m.result c.at-simple.result c.requires.index c.m.ensures.value c.at-simple.ensures)
+    ∙ ap (step_matrix c.args.datum.now c.args.space.now.weights) (place_simple c.args.datum.now c.loaded.ensures c.args.i c.m.result c.at-simple.result c.requires.index c.m.ensures.value c.at-simple.ensures)
 
-down_is : (c : In_ok-down) → c.in_ok-down.down ≡ step_matrix c.args.datum.now c.args.module.now.weights (neg_ℤ (pos (c.args.i + 1)))
+down_is : (c : In_ok-down) → c.in_ok-down.down ≡ step_matrix c.args.datum.now c.args.space.now.weights (neg_ℤ (pos (c.args.i + 1)))
 down_is c = c.in_ok-down.ensures.value ∙ ap (λ (ws : List Vector). step_matrix c.args.datum.now ws c.opposite.result) c.weights-2.ensures
-    ∙ ap (step_matrix c.args.datum.now c.args.module.now.weights) (c.opposite.ensures ∙ ap neg_ℤ (place_simple c.args.datum.now c.loaded.ensures c.args.i c.m.result c.at-simple.result c.requires.index c.m.ensures.value c.at-simple.ensures))
+    ∙ ap (step_matrix c.args.datum.now c.args.space.now.weights) (c.opposite.ensures ∙ ap neg_ℤ (place_simple c.args.datum.now c.loaded.ensures c.args.i c.m.result c.at-simple.result c.requires.index c.m.ensures.value c.at-simple.ensures))
 
 pub step_factors-requires-clause-few : goal.step_factors-requires-clause-few
 step_factors-requires-clause-few c =
     let e = ap (λ (m : _). m.height) (up_is (goal.at.step_factors-requires-clause-few c).In_ok-up) in
-    let s = (step-size c.args.datum.now c.args.module.now.weights (pos (c.args.i + 1))).height in
+    let s = (step-size c.args.datum.now c.args.space.now.weights (pos (c.args.i + 1))).height in
     let f = c.requires.few in
     omega (arith, e, s, f)
 
 pub step_factors-requires-clause-up : goal.step_factors-requires-clause-up
 step_factors-requires-clause-up c =
     let e = up_is (goal.at.step_factors-requires-clause-up c).In_ok-up in
-    let s = (step-size c.args.datum.now c.args.module.now.weights (pos (c.args.i + 1))).height in
-    subst (λ t. IsStepping t.height t) (sym e) (subst (λ h. IsStepping h (step_matrix c.args.datum.now c.args.module.now.weights (pos (c.args.i + 1)))) (sym s) (step_stepping c.args.datum.now c.args.module.now.weights (pos (c.args.i + 1))))
+    let s = (step-size c.args.datum.now c.args.space.now.weights (pos (c.args.i + 1))).height in
+    subst (λ t. IsStepping t.height t) (sym e) (subst (λ h. IsStepping h (step_matrix c.args.datum.now c.args.space.now.weights (pos (c.args.i + 1)))) (sym s) (step_stepping c.args.datum.now c.args.space.now.weights (pos (c.args.i + 1))))
 
 pub step_factors-requires-clause-down : goal.step_factors-requires-clause-down
 step_factors-requires-clause-down c =
     let e = up_is (goal.at.step_factors-requires-clause-down c).In_ok-up in
     let f = down_is (goal.at.step_factors-requires-clause-down c).In_ok-down in
-    let s = (step-size c.args.datum.now c.args.module.now.weights (pos (c.args.i + 1))).height in
-    subst (λ h. IsStepping h c.in_ok-down.down) (sym (ap (λ (m : _). m.height) e ∙ s)) (subst (IsStepping (dimension c.args.module.now)) (sym f) (step_stepping c.args.datum.now c.args.module.now.weights (neg_ℤ (pos (c.args.i + 1)))))
+    let s = (step-size c.args.datum.now c.args.space.now.weights (pos (c.args.i + 1))).height in
+    subst (λ h. IsStepping h c.in_ok-down.down) (sym (ap (λ (m : _). m.height) e ∙ s)) (subst (IsStepping (dimension c.args.space.now)) (sym f) (step_stepping c.args.datum.now c.args.space.now.weights (neg_ℤ (pos (c.args.i + 1)))))
 
 pub returns : goal.returns
 returns c =
     let d = c.args.datum.now in
-    let v = c.args.module.now in
+    let v = c.args.space.now in
     let i = c.args.i + 1 in
     let index = place_index d c.loaded.ensures c.args.i c.requires.index in
     let last : c.args.i + 1 ≤ _ = index.1 in

@@ -47,16 +47,16 @@ write_steps-requires-2-clause-near c =
     let a = (goal.at.write_steps-requires-2-clause-near c).After-at-simple in
     subst (λ t. IsWithin 100 (vector c.args.datum.now.base (root_of c.args.datum.now t))) (sym (opposite_is o)) (opposite_within c.args.datum.now c.loaded.ensures 100 (pos (c.args.i + 1)) (simple_number a) (simple_near a))
 
-first_writes : (c : In_ok-write_steps) → WritesSteps c.args.datum.now c.args.module.now (pos (c.args.i + 1)) c.write_steps.new.module
-first_writes c = subst (λ t. WritesSteps c.args.datum.now c.args.module.now t c.write_steps.new.module) (place_simple c.args.datum.now c.loaded.ensures c.args.i c.m.result c.at-simple.result c.requires.index c.m.ensures.value c.at-simple.ensures) c.in_ok-write_steps.ensures
+first_writes : (c : In_ok-write_steps) → WritesSteps c.args.datum.now c.args.space.now (pos (c.args.i + 1)) c.write_steps.new.space
+first_writes c = subst (λ t. WritesSteps c.args.datum.now c.args.space.now t c.write_steps.new.space) (place_simple c.args.datum.now c.loaded.ensures c.args.i c.m.result c.at-simple.result c.requires.index c.m.ensures.value c.at-simple.ensures) c.in_ok-write_steps.ensures
 
-first_weights : (c : In_ok-write_steps) → c.write_steps.new.module.weights ≡ c.args.module.now.weights
-first_weights c = writes_weights c.args.datum.now c.args.module.now c.requires.stepped.single (pos (c.args.i + 1)) (simple_some c.args.datum.now c.loaded.ensures (c.args.i + 1) (place_index c.args.datum.now c.loaded.ensures c.args.i c.requires.index)) c.write_steps.new.module (first_writes c)
+first_weights : (c : In_ok-write_steps) → c.write_steps.new.space.weights ≡ c.args.space.now.weights
+first_weights c = writes_weights c.args.datum.now c.args.space.now c.requires.stepped.single (pos (c.args.i + 1)) (simple_some c.args.datum.now c.loaded.ensures (c.args.i + 1) (place_index c.args.datum.now c.loaded.ensures c.args.i c.requires.index)) c.write_steps.new.space (first_writes c)
 
 pub write_steps-requires-2-clause-single : goal.write_steps-requires-2-clause-single
 write_steps-requires-2-clause-single c =
     let k = (goal.at.write_steps-requires-2-clause-single c).In_ok-write_steps in
-    writes_single c.args.datum.now c.args.module.now c.requires.stepped.single (pos (c.args.i + 1)) (simple_some c.args.datum.now c.loaded.ensures (c.args.i + 1) (place_index c.args.datum.now c.loaded.ensures c.args.i c.requires.index)) c.write_steps.new.module (first_writes k)
+    writes_single c.args.datum.now c.args.space.now c.requires.stepped.single (pos (c.args.i + 1)) (simple_some c.args.datum.now c.loaded.ensures (c.args.i + 1) (place_index c.args.datum.now c.loaded.ensures c.args.i c.requires.index)) c.write_steps.new.space (first_writes k)
 
 pub write_steps-requires-2-clause-small : goal.write_steps-requires-2-clause-small
 write_steps-requires-2-clause-small c =
@@ -73,15 +73,15 @@ returns-clause-stepped c =
     let d = c.args.datum.now in
     let k = (goal.at.returns-clause-stepped c).In_ok-write_steps in
     let o = (goal.at.returns-clause-stepped c).After-opposite in
-    ok_map (λ _. WritesSteps d c.write_steps.new.module c.opposite.result c.write_steps-2.new.module) (λ _. IsStepped d (c.args.i + 1) c.write_steps-2.new.module)
-    (λ _ h. two_steps d c.loaded.ensures c.args.module.now c.write_steps.new.module c.write_steps-2.new.module c.args.i c.requires.index c.requires.stepped (first_writes k)
-    (subst (λ t. WritesSteps d c.write_steps.new.module t c.write_steps-2.new.module) (opposite_is o) h))
+    ok_map (λ _. WritesSteps d c.write_steps.new.space c.opposite.result c.write_steps-2.new.space) (λ _. IsStepped d (c.args.i + 1) c.write_steps-2.new.space)
+    (λ _ h. two_steps d c.loaded.ensures c.args.space.now c.write_steps.new.space c.write_steps-2.new.space c.args.i c.requires.index c.requires.stepped (first_writes k)
+    (subst (λ t. WritesSteps d c.write_steps.new.space t c.write_steps-2.new.space) (opposite_is o) h))
     c.write_steps-2.result c.write_steps-2.ensures
 
 pub returns-clause-weights : goal.returns-clause-weights
 returns-clause-weights c =
     let d = c.args.datum.now in
     let k = (goal.at.returns-clause-weights c).In_ok-write_steps in
-    ok_map (λ _. WritesSteps d c.write_steps.new.module c.opposite.result c.write_steps-2.new.module) (λ _. c.write_steps-2.new.module.weights ≡ c.args.module.now.weights)
+    ok_map (λ _. WritesSteps d c.write_steps.new.space c.opposite.result c.write_steps-2.new.space) (λ _. c.write_steps-2.new.space.weights ≡ c.args.space.now.weights)
     (λ _ h. ap (λ (u : _). u.weights) h.2 ∙ first_weights k)
     c.write_steps-2.result c.write_steps-2.ensures

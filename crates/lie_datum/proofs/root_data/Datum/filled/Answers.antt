@@ -1,7 +1,7 @@
 use Rattle.std.proofs.Common.{◌≡◌, ℕ, subst, sym, ap, ◌∙◌, List, take, length, arith, refl, map, length-take}
 use Rattle.std.specs.List.{All, range_with_len}
 use Rattle.lie_datum.specs.RootDatum.{Root, IsRoot, IsSmall, covector, vector, reflected, rank}
-use Rattle.lie_datum.specs.RootList.{Roots, all_roots}
+use Rattle.lie_datum.specs.RootList.{RootDatum, all_roots}
 use Rattle.lie_datum.proofs.TablesHold.{names_root, some_name, all_small, index_of_roots, entries_view, tables_hold}
 use Rattle.lie_datum.specs.Vectors.{Vector, plus}
 use Rattle.lie_datum.specs.Entries.{HasEntry}
@@ -13,23 +13,23 @@ use Rattle.lie_datum.proofs.root_data.Datum.filled.Goals as goal
 
 pub entries-requires-clause-roots : goal.entries-requires-clause-roots
 entries-requires-clause-roots c =
-    let d : Roots = record { base = c.args.base; positive = take c.args.positive c.args.all.now } in
+    let d : RootDatum = record { base = c.args.base; positive = take c.args.positive c.args.all.now } in
     subst (All (λ r. IsRoot c.args.base r × IsSmall r)) (sym c.requires.all) (all_small d c.requires.loaded)
 
 pub sums-requires : goal.sums-requires
 sums-requires c =
-    let d : Roots = record { base = c.args.base; positive = take c.args.positive c.args.all.now } in
+    let d : RootDatum = record { base = c.args.base; positive = take c.args.positive c.args.all.now } in
     let h = subst (All (λ r. IsRoot c.args.base r × IsSmall r)) (sym c.requires.all) (all_small d c.requires.loaded) in
     λ k z l. (h k z l).1
 
 pub images-requires-clause-roots : goal.images-requires-clause-roots
 images-requires-clause-roots c =
-    let d : Roots = record { base = c.args.base; positive = take c.args.positive c.args.all.now } in
+    let d : RootDatum = record { base = c.args.base; positive = take c.args.positive c.args.all.now } in
     subst (All (λ r. IsRoot c.args.base r × IsSmall r)) (sym c.requires.all) (all_small d c.requires.loaded)
 
 pub images-requires-clause-named : goal.images-requires-clause-named
 images-requires-clause-named c r p =
-    let d : Roots = record { base = c.args.base; positive = take c.args.positive c.args.all.now } in
+    let d : RootDatum = record { base = c.args.base; positive = take c.args.positive c.args.all.now } in
     let names = get (pointwise int_eq) c.in_ok-by_coeffs.by_coeffs in
     let twice = c.requires.count in
     let count : c.args.positive ≡ length d.positive = sym (length-take c.args.positive c.args.all.now ∙ omega arith) in
@@ -38,7 +38,7 @@ images-requires-clause-named c r p =
 
 pub invariant_of-result-2 : goal.invariant_of-result-2
 invariant_of-result-2 c =
-    let d : Roots = record { base = c.args.base; positive = take c.args.positive c.args.all.now } in
+    let d : RootDatum = record { base = c.args.base; positive = take c.args.positive c.args.all.now } in
     let names = get (pointwise int_eq) c.in_ok-by_coeffs.by_coeffs in
     let all = c.requires.all in
     let twice = c.requires.count in
@@ -56,7 +56,7 @@ invariant_of-result-2 c =
 
 pub returns : goal.returns
 returns c =
-    let d : Roots = record { base = c.args.base; positive = take c.args.positive c.args.all.now } in
+    let d : RootDatum = record { base = c.args.base; positive = take c.args.positive c.args.all.now } in
     let twice = c.requires.count in
     let count : c.args.positive ≡ length d.positive = sym (length-take c.args.positive c.args.all.now ∙ omega arith) in
     entries_view d c.args.positive c.in_ok-entries.field-0.items count (c.in_ok-entries.ensures.roots ∙ c.requires.all)

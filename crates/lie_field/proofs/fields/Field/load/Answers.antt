@@ -5,7 +5,7 @@ use Rattle.lie_field.specs.Tables.{IsTables}
 use Rattle.lie_field.specs.FieldTables.{AreTables}
 use Rattle.lie_field.specs.FiniteField.{is_field}
 use Rattle.lie_field.specs.Algebra.FieldTest.{field_from}
-use Rattle.lie_field.specs.Faults.{IsSize, IsSized, IsFault, IsTablesFault, AllCoefficientsBelow}
+use Rattle.lie_field.specs.Faults.{IsSize, IsWithinLimit, IsFault, IsTablesFault, AllCoefficientsBelow}
 use Rattle.lie_field.specs.declared.faults.FieldFault.{FieldFault}
 use Rattle.lie_field.specs.declared.faults.FieldFault.TheVariants.{NoMemory, Size, Coefficient, Element, Generator}
 use Rattle.lie_field.specs.declared.tables.Tables.{Tables}
@@ -13,11 +13,11 @@ use Rattle.lie_field.proofs.fields.Field.load.Goals as goal
 use Rattle.lie_field.proofs.fields.Field.load.Goals.{then-g-eq0-via-then-g-eq0, then-g-eq0-via-else-g-eq0+then-g-q}
 
 -- p and k are within the limits exactly where the data are
-size_of_data : (p k : ℕ) (cs : List ℕ) (g : ℕ) → length cs ≡ k → IsSized (field_data p cs g) → IsSize p k
+size_of_data : (p k : ℕ) (cs : List ℕ) (g : ℕ) → length cs ≡ k → IsWithinLimit (field_data p cs g) → IsSize p k
 unfolding order degree
 size_of_data p k cs g e s = subst (IsSize p) e (s.p_large, s.has_degree, s.q_small)
 
-sized : (p k q : ℕ) (cs : List ℕ) (g : ℕ) → length cs ≡ k → (q ≡ p ^ k) × IsSize p k → IsSized (field_data p cs g) × (q ≡ order (field_data p cs g))
+sized : (p k q : ℕ) (cs : List ℕ) (g : ℕ) → length cs ≡ k → (q ≡ p ^ k) × IsSize p k → IsWithinLimit (field_data p cs g) × (q ≡ order (field_data p cs g))
 unfolding order degree
 sized p k q cs g e s =
     let t = subst (IsSize p) (sym e) s.1 in
@@ -27,7 +27,7 @@ degree_is : (p k : ℕ) (cs : List ℕ) (g : ℕ) → length cs ≡ k → k ≡ 
 unfolding degree
 degree_is p k cs g e = sym e
 
-fault : (p : ℕ) (cs : List ℕ) (g : ℕ) (e : FieldFault) → IsSized (field_data p cs g) → AllCoefficientsBelow (field_data p cs g) → 0 < g → g < order (field_data p cs g) →
+fault : (p : ℕ) (cs : List ℕ) (g : ℕ) (e : FieldFault) → IsWithinLimit (field_data p cs g) → AllCoefficientsBelow (field_data p cs g) → 0 < g → g < order (field_data p cs g) →
     IsTablesFault (field_data p cs g) e → IsFault (field_data p cs g) e
 fault p cs g NoMemory s all above below h = tt
 fault p cs g Size s all above below h = absurd h
@@ -100,4 +100,4 @@ returns c =
     let copied : c.in_ok-coefficients.coefficients.items ≡ c.args.coeffs.now = search rules in
     let s = sized c.args.p c.args.k c.in-Some.q c.args.coeffs.now c.args.g c.requires c.in-Some.ensures in
     let same = same_data c.args.p c.args.coeffs.now c.in_ok-coefficients.coefficients.items c.args.g copied in
-    (sym same, subst IsSized same s.0, subst IsFieldData same c.in_ok-tables.ensures.0)
+    (sym same, subst IsWithinLimit same s.0, subst IsFieldData same c.in_ok-tables.ensures.0)

@@ -22,21 +22,21 @@ in_order-requires-clause-whole c =
     let e = count_is (goal.at.in_order-requires-clause-whole c).After-len-count in
     subst (HasAllImages c.args.datum.now) (sym c.as_slice.ensures.keys) (c.in_ok-orbit.ensures.grown (let f = c.if-count-gt-LIMIT.false in omega (arith, e, f)))
 
-weights_are : (c : After-complete) → c.complete.new.module.weights ≡ c.in_ok-weights.weights.items
-weights_are c = c.complete.ensures.weights ∙ c.in_ok-module.ensures.weights
+weights_are : (c : After-complete) → c.complete.new.space.weights ≡ c.in_ok-weights.weights.items
+weights_are c = c.complete.ensures.weights ∙ c.in_ok-space.ensures.weights
 
-orbit_is : (c : After-complete) → IsOrbit c.args.datum.now c.args.v.now c.complete.new.module.weights
+orbit_is : (c : After-complete) → IsOrbit c.args.datum.now c.args.v.now c.complete.new.space.weights
 orbit_is c =
     let first = ap first_weight c.as_slice.ensures.keys ∙ c.in_ok-orbit.ensures.first in
-    subst (IsOrbit c.args.datum.now c.args.v.now) (sym (c.complete.ensures.weights ∙ c.in_ok-module.ensures.weights)) (subst (λ w. IsOrbit c.args.datum.now w c.in_ok-weights.weights.items) first c.in_ok-weights.ensures.orbit)
+    subst (IsOrbit c.args.datum.now c.args.v.now) (sym (c.complete.ensures.weights ∙ c.in_ok-space.ensures.weights)) (subst (λ w. IsOrbit c.args.datum.now w c.in_ok-weights.weights.items) first c.in_ok-weights.ensures.orbit)
 
-light_is : (c : After-complete) → AreLight c.complete.new.module.weights
+light_is : (c : After-complete) → AreLight c.complete.new.space.weights
 light_is c =
     let e : c.len-count.result ≡ length c.in_ok-orbit.orbit.keys = let l = c.len-count.ensures.len in search rules in
     let n = c.in_ok-weights.ensures.count in
     let k = ap length c.as_slice.ensures.keys in
     let f = c.if-count-gt-LIMIT.false in
-    subst AreLight (sym (c.complete.ensures.weights ∙ c.in_ok-module.ensures.weights)) (are_light c.in_ok-weights.weights.items (omega (arith, e, n, k, f)) c.in_ok-weights.ensures.small)
+    subst AreLight (sym (c.complete.ensures.weights ∙ c.in_ok-space.ensures.weights)) (are_light c.in_ok-weights.weights.items (omega (arith, e, n, k, f)) c.in_ok-weights.ensures.small)
 
 pub returns-in-Ok : goal.returns-in-Ok
 returns-in-Ok c =
@@ -46,4 +46,4 @@ returns-in-Ok c =
 pub returns : goal.returns
 returns c =
     let a = (goal.at.returns c).After-complete in
-    fault_loads c.args.datum.now (eta_of c.args.signs.now) c.args.v.now c.complete.new.module c.in-Err.fault c.requires.light (orbit_is a) (light_is a) c.in-Err.ensures.fault
+    fault_loads c.args.datum.now (eta_of c.args.signs.now) c.args.v.now c.complete.new.space c.in-Err.fault c.requires.light (orbit_is a) (light_is a) c.in-Err.ensures.fault

@@ -5,12 +5,12 @@ use Rattle.lie_const.proofs.ChainLemmas.{small_power, walk_start, walk_on, walk_
 use Rattle.lie_datum.specs.Vectors.{plus}
 use Rattle.lie_datum.specs.RootList.{NamesRoot}
 use Rattle.lie_const.specs.StructureConstants.{coeffs_of}
-use Rattle.lie_const.specs.CommutatorTerms.{chain}
+use Rattle.lie_const.specs.CommutatorTerms.{string_product}
 use mir.Val.{to_z}
 use mir.Syntax.{w128}
 use Rattle.lie_const.proofs.Kept.{right_fits, right_kept}
 use Rattle.lie_const.proofs.SpecialLemmas.{abs_number}
-use Rattle.lie_const.proofs.terms.chain.Goals as goal
+use Rattle.lie_const.proofs.terms.string_product.Goals as goal
 
 pub loop-init : goal.loop-init
 loop-init c = (walk_start c.args.datum.now c.loaded.ensures (table_in c.args.values.now) c.args.r c.args.s c.requires.r c.requires.s, omega arith)
@@ -55,7 +55,7 @@ returns-clause-value c =
     let n = table_in c.args.values.now in
     let l = c.loop-test.false in
     let e : c.loop.counter ≡ c.args.count = let m = c.loop.invariant.1 in omega (arith, l, m) in
-    c.loop.invariant.0.value ∙ ap (chain d n (coeffs_of d c.args.r) (coeffs_of d c.args.s)) e
+    c.loop.invariant.0.value ∙ ap (string_product d n (coeffs_of d c.args.r) (coeffs_of d c.args.s)) e
 
 pub returns-clause-bound : goal.returns-clause-bound
 returns-clause-bound c = small c.loop.counter (to_z w128 c.loop.product-bits) (let l = c.loop.invariant.1 in let m = c.requires.count in omega (arith, l, m)) c.loop.invariant.0.bound
