@@ -8,7 +8,7 @@ use Rattle.lie_datum.proofs.SignedRoots.{same_place, opposite_number, root_is, n
 use Rattle.lie_weyl.specs.Orders.{IsOrder}
 use Rattle.lie_const.specs.Modules.{Module}
 use Rattle.lie_const.specs.Signs.{Signs, image, sign_entry, SignTable, eta_of}
-use Rattle.lie_const.specs.Braids.{HasBraids, IsBraidValue, IsFirstBadBraid, carried_sign, alternating}
+use Rattle.lie_letters.specs.Braids.{HasBraids, IsBraidValue, IsFirstBadBraid, carried_sign, alternating}
 use Rattle.lie_weight.proofs.NumberOf.{number_of-root}
 use Rattle.lie_audit.specs.BraidAnswers.{OneBraidAnswer}
 use Rattle.lie_audit.specs.SignAnswers.{AreTestedSigns, OneSignAnswer}

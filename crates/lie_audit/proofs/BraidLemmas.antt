@@ -10,7 +10,7 @@ use Rattle.lie_datum.specs.Laws.{SimplesFirst}
 use Rattle.lie_datum.proofs.LoadedLaws.{short}
 use Rattle.lie_datum.proofs.Roots.{simple_vector}
 use Rattle.lie_const.specs.Signs.{Signs, image}
-use Rattle.lie_const.specs.Braids.{carried_sign, alternating}
+use Rattle.lie_letters.specs.Braids.{carried_sign, alternating}
 use Rattle.lie_audit.specs.SignParts.{unit}
 use Rattle.lie_audit.proofs.SimpleNumbers.{simple_root_of}
 use Rattle.lie_audit.proofs.EntrySums.{unit-other}

@@ -2,7 +2,7 @@
 use Rattle.std.specs.Prelude.{◌≡◌, ℕ, ℤ}
 use Rattle.lie_datum.specs.RootList.{RootDatum}
 use Rattle.lie_const.specs.Signs.{Signs}
-use Rattle.lie_const.specs.Braids.{HasBraids, IsFirstBadBraid}
+use Rattle.lie_letters.specs.Braids.{HasBraids, IsFirstBadBraid}
 
 -- the answers exclude one another: either all braid values are 1, or one pair alone is the first whose value is not
 pub record OneBraidAnswer : Type 0 where

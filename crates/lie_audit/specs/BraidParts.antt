@@ -3,7 +3,7 @@ use Rattle.std.specs.Prelude.{◌≡◌, ◌≢◌, ℕ, ◌<◌, pos}
 use Rattle.lie_datum.specs.RootDatum.{IsSimpleIndex}
 use Rattle.lie_datum.specs.RootList.{RootDatum}
 use Rattle.lie_const.specs.Signs.{Signs}
-use Rattle.lie_const.specs.Braids.{IsBraidValue}
+use Rattle.lie_letters.specs.Braids.{IsBraidValue}
 use Rattle.lie_audit.specs.declared.faults.BraidFault.{BraidFault}
 
 -- the braid values of i with the later simple indices are 1

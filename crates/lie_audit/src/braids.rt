@@ -5,7 +5,7 @@ ghost use Rattle.lie_datum.specs.RootDatum.{IsSimpleIndex, cartan};
 ghost use Rattle.lie_datum.specs.RootList.{IsNumber};
 ghost use Rattle.lie_weyl.specs.Orders.{IsOrder};
 ghost use Rattle.lie_const.specs.Signs.{eta_of, IsSignTable};
-ghost use Rattle.lie_const.specs.Braids.{IsBraidValue, HasBraids, IsFirstBadBraid};
+ghost use Rattle.lie_letters.specs.Braids.{IsBraidValue, HasBraids, IsFirstBadBraid};
 ghost use Rattle.lie_audit.specs.SignParts.{unit};
 ghost use Rattle.lie_audit.specs.BraidParts.{HasBraidsFrom, IsFirstBadIn};
 

@@ -9,7 +9,6 @@ use Rattle.lie_const.specs.StructureConstants.{Table}
 use Rattle.lie_const.specs.Modules.{Module, root_element, weyl_element}
 use Rattle.lie_const.specs.Adjoint.{RootVector, CorootVector, basis_vector, basis_place, bracket_matrix, matrix_power}
 use Rattle.lie_const.specs.Signs.{sign_entry}
-use Rattle.lie_const.specs.Braids.{alternating}
 
 -- the number, and seven zeros
 abbrev one_entry : ℤ → Vector
@@ -67,7 +66,3 @@ weyl-element-a1 = refl
 sign-a1 : sign_entry a1 adjoint 1 (pos 1) ≡ negsuc 0
 unfolding weyl_element root_element
 sign-a1 = refl
-
--- three letters, the second first
-braid-letters : alternating 2 1 3 ≡ 2 ∷ (1 ∷ (2 ∷ []))
-braid-letters = refl

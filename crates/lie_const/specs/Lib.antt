@@ -7,4 +7,3 @@ pub mod Layout
 pub mod Modules
 pub mod Adjoint
 pub mod Signs
-pub mod Braids

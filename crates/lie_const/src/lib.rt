@@ -6,8 +6,8 @@
 //! also says what `load` answers. After `load` every call is a look-up and takes no memory.
 //!
 //! `Signs` is the table of the signs of the Weyl representatives on root elements, `specs/Signs.antt`. The definitions
-//! that these rest on stand here too: modules, `specs/Modules.antt`, the adjoint module, `specs/Adjoint.antt`, and the
-//! braid values, `specs/Braids.antt`. The crate stands on `lie_weyl`, `lie_datum`, `lie_ring`, `lie_base` and `thiserror`.
+//! that these rest on stand here too: modules, `specs/Modules.antt`, and the adjoint module, `specs/Adjoint.antt`. The crate
+//! stands on `lie_datum`, `lie_ring`, `lie_base` and `thiserror`.
 #![tactic(auto)]
 
 mod constants;

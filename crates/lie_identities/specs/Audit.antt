@@ -17,7 +17,7 @@ use Rattle.lie_datum.specs.RootList.{RootDatum, root_of, IsNumber}
 use Rattle.lie_const.specs.ConstantTables.{ConstantTable}
 use Rattle.lie_const.specs.Modules.{Module, dimension, divided_power}
 use Rattle.lie_const.specs.Signs.{Signs}
-use Rattle.lie_weight.specs.Conjugation.{IsHugeMatrix}
+use Rattle.lie_mat.specs.Wide.{IsHugeMatrix}
 use Rattle.lie_poly.specs.Polynomials.{Polynomial, monomial, coefficient, laurent}
 use Rattle.lie_poly.specs.Differences.{IsFirstDifference}
 use Rattle.lie_identities.specs.declared.relations.Rel.{Rel}

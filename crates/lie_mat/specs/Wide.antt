@@ -1,6 +1,6 @@
 -- Where the sizes or the degrees of the entries may be too large for an operation on matrices.
 -- Own: the bounds; the size of an answer is that of the same operation on the matrices of the sizes of the entries.
-use Rattle.std.specs.Prelude.{ℕ, zero, suc, ◌+◌, ◌*◌, ◌/◌, ◌%◌, ◌^◌, ◌<◌, ◌≤◌, ◌⊎◌, List}
+use Rattle.std.specs.Prelude.{ℕ, zero, suc, ◌+◌, ◌*◌, ◌/◌, ◌%◌, ◌^◌, ◌<◌, ◌≤◌, ◌⊎◌, ℤ, pos, nat_abs, List}
 use Rattle.lie_ring.specs.Rings.{RingOn}
 use Rattle.lie_ring.specs.Matrices.{Matrix, entry, column}
 
@@ -60,3 +60,11 @@ IsWideKronecker R M N = IsSomewhere (M.height * N.height) (M.width * N.width) (I
 -- some entry of M applied to v is too wide
 abbrev pub IsWideApplied : {A : Type 0} → RingOn A → Matrix A → List A → Type 0
 IsWideApplied R M v = IsWideProduct R M (column R.zero v)
+
+-- some entry of a matrix of integers is 2^126 at least, in absolute value
+pub record IsHugeMatrix (M : Matrix ℤ) : Type 0 where
+  pub row : ℕ
+  pub col : ℕ
+  pub row_within : row < M.height
+  pub col_within : col < M.width
+  pub huge : 2 ^ 126 ≤ nat_abs (entry (pos 0) M row col)

@@ -11,7 +11,7 @@ use Rattle.std.specs.List.{AllByRecursion}
 use Rattle.lie_audit.specs.SignAnswers.{AreTestedSigns}
 use Rattle.lie_audit.specs.WordMatrix.{word_matrix, IsWordFor}
 use Rattle.lie_const.specs.Adjoint.{IsAdjointOf}
-use Rattle.lie_const.specs.Braids.{HasBraids}
+use Rattle.lie_letters.specs.Braids.{HasBraids}
 use Rattle.lie_const.specs.ConstantTables.{ConstantTable, LoadsConstants}
 use Rattle.lie_const.specs.Modules.{Module}
 use Rattle.lie_const.specs.Signs.{SignTable, eta_of}

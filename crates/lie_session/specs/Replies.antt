@@ -13,7 +13,7 @@ use Rattle.lie_audit.specs.WordMatrix.{word_matrix}
 use Rattle.lie_audit.specs.declared.faults.SignFault.{SignFault}
 use Rattle.lie_audit.specs.declared.faults.SignFault.TheVariants as sign_fault
 use Rattle.lie_const.specs.Adjoint.{IsAdjointOf}
-use Rattle.lie_const.specs.Braids.{HasBraids, IsFirstBadBraid}
+use Rattle.lie_letters.specs.Braids.{HasBraids, IsFirstBadBraid}
 use Rattle.lie_const.specs.ConstantTables.{ConstantTable, LoadsConstants}
 use Rattle.lie_const.specs.Modules.{Module, dimension}
 use Rattle.lie_const.specs.Signs.{SignTable, eta_of}

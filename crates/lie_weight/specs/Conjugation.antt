@@ -8,11 +8,12 @@
 --   |M|                absolute M                  entry by entry
 --   F_r                absolute_element v r        1 + |E_r^(1)| + |E_r^(2)| + ..
 --   the work           work v i s k                F_i F_-i F_i |E_s^(k)| F_i F_-i F_i, which bounds the conjugate and all that leads to it
-use Rattle.std.specs.Prelude.{◌≡◌, ◌⊎◌, ℕ, suc, ◌<◌, ◌≤◌, ◌^◌, ℤ, pos, neg_ℤ, ◌+ℤ◌, nat_abs, unsigned_abs, length, cond, eqb}
+use Rattle.std.specs.Prelude.{◌≡◌, ◌⊎◌, ℕ, suc, ◌<◌, ◌≤◌, ℤ, pos, neg_ℤ, ◌+ℤ◌, nat_abs, unsigned_abs, length, cond, eqb}
 use Rattle.lie_ring.specs.Rings.{sum_below}
 use Rattle.lie_ring.specs.Integers.{integers}
 use Rattle.lie_ring.specs.Powers.{power}
 use Rattle.lie_ring.specs.Matrices.{Matrix, table, entry, product, scaled}
+use Rattle.lie_mat.specs.Wide.{IsHugeMatrix}
 use Rattle.lie_datum.specs.Numbers.{place}
 use Rattle.lie_datum.specs.RootDatum.{rank, reflected, IsSimpleIndex}
 use Rattle.lie_datum.specs.RootList.{RootDatum, root_of, height, IsNumber}
@@ -73,14 +74,6 @@ absolute_weyl v i = product integers (absolute_element v (pos i)) (product integ
 -- the product of the seven absolute values
 abbrev pub work : Module → ℕ → ℤ → ℕ → Matrix ℤ
 work v i s k = product integers (product integers (absolute_weyl v i) (absolute (divided_power v s k))) (absolute_weyl v i)
-
--- some entry is 2^126 at least, in absolute value
-pub record IsHugeMatrix (M : Matrix ℤ) : Type 0 where
-  pub row : ℕ
-  pub col : ℕ
-  pub row_within : row < M.height
-  pub col_within : col < M.width
-  pub huge : 2 ^ 126 ≤ nat_abs (entry (pos 0) M row col)
 
 -- the work at r and k is huge
 pub record IsHuge (d : RootDatum) (v : Module) (r : ℤ) (k : ℕ) : Type 0 where

@@ -1,7 +1,7 @@
 use Rattle.std.proofs.Common.{ℕ, ◌<◌, pos}
 use Rattle.lie_datum.specs.RootDatum.{IsSimpleIndex}
 use Rattle.lie_const.specs.Signs.{eta_of}
-use Rattle.lie_const.specs.Braids.{IsBraidValue}
+use Rattle.lie_letters.specs.Braids.{IsBraidValue}
 use Rattle.lie_audit.proofs.braids.braid_row.Given as goal
 
 abbrev pub invariant-loop-j : goal.invariant-loop-j

@@ -2,7 +2,7 @@ use Rattle.std.proofs.Common.{◌≡◌, ◌-◌, pos, ◌*ℤ◌}
 use Rattle.lie_datum.specs.RootDatum.{IsSimpleIndex}
 use Rattle.lie_datum.specs.RootList.{IsNumber}
 use Rattle.lie_const.specs.Signs.{eta_of}
-use Rattle.lie_const.specs.Braids.{carried_sign, alternating}
+use Rattle.lie_letters.specs.Braids.{carried_sign, alternating}
 use Rattle.lie_audit.specs.SignParts.{unit}
 use Rattle.lie_audit.proofs.braids.braid_value.Given as goal
 

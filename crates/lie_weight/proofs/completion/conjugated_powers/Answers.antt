@@ -6,7 +6,7 @@ use Rattle.lie_ring.specs.Matrices.{product, scaled, zero_matrix}
 use Rattle.lie_ring.specs.declared.rings.RingStop.TheVariants.{Wide}
 use Rattle.lie_datum.proofs.VectorLemmas.{plain}
 use Rattle.lie_const.specs.Modules.{dimension, divided_powers, divided_power}
-use Rattle.lie_weight.specs.Conjugation.{IsHugeMatrix}
+use Rattle.lie_mat.specs.Wide.{IsHugeMatrix}
 use Rattle.lie_weight.specs.Factors.{work_on}
 use Rattle.lie_weight.specs.Completion.{Keeps}
 use Rattle.lie_weight.proofs.DraftLemmas.{past_end}
