@@ -8,7 +8,7 @@ ghost use Rattle.lie_datum.specs.RootDatum.{rank};
 ghost use Rattle.lie_datum.specs.RootList.{IsNumber};
 ghost use Rattle.lie_const.specs.Modules.{dimension, top, divided_power};
 ghost use Rattle.lie_const.specs.Signs.{IsSignTable, eta_of};
-use Rattle.lie_mat.specs.Wide.{IsHugeMatrix}
+ghost use Rattle.lie_mat.specs.Wide.{IsHugeMatrix};
 ghost use Rattle.lie_weight.specs.OrbitModules.{HasSteps};
 ghost use Rattle.lie_weight.specs.Factors.{AreFactors, work_on};
 ghost use Rattle.lie_weight.specs.Completion.{Keeps, IsStepped, IsPartly, AreAllFactors, IsConjugateFault};
