@@ -13,14 +13,12 @@
 mod columns;
 mod comparisons;
 mod entries;
-mod laws;
 mod mats;
 mod operations;
 mod rules;
 mod sums;
 
 pub use entries::{Entries, build};
-pub use laws::image_of_product;
 pub use mats::Mat;
 
 #[cfg(test)]
