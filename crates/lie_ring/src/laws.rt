@@ -12,5 +12,7 @@ pub fn matrix_laws<R: Ring>(ring: &R)
 
 /// What a homomorphism does to each.
 pub fn matrix_images<H: Hom>(hom: &H)
-    ensures { CarriesMatrices (H.Src.ring (H.source hom.now)) (H.Dst.ring (H.target hom.now)) (H.map hom.now) }
+    ensures { let source = H.Src.ring (H.source hom.now) in
+        let target = H.Dst.ring (H.target hom.now) in
+        CarriesMatrices source target (H.map hom.now) }
 {}
