@@ -3,7 +3,7 @@ use Rattle.std.proofs.Common.{◌≡◌, ℕ, sym, ap, ap₂, ◌∙◌, subst}
 use Rattle.std.specs.Prelude.{ℤ, pos, ◌+ℤ◌, ◌*ℤ◌, neg_ℤ}
 use Rattle.lie_field.specs.Quotient.{mul, inv, power_int}
 use Rattle.lie_field.specs.FiniteField.{FiniteField}
-use Rattle.lie_field.specs.Elements.{NonZero, unit_one, unit_mul, unit_inv, unit_power_int, unit_one-number, unit_mul-number, unit_inv-number, power-number, power_one, power_zero, power_first, power_add, power_power, power_neg, power_mul, unit_at, IsUnit-number}
+use Rattle.lie_field.specs.Elements.{NonZero, unit_one, unit_mul, unit_power_int, unit_one-number, unit_mul-number, unit_inv-number, power-number, power_one, power_first, power_add, power_power, power_neg, power_mul, unit_at, IsUnit-number}
 use Rattle.lie_field.specs.Algebra.IntegerPowers.{power_int-none}
 use Rattle.lie_field.specs.Units.{IsUnit, HasPowerLaws}
 
