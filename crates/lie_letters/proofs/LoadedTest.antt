@@ -160,7 +160,7 @@ any_true t P h [] a = absurd (let l = a.2 in omega (arith, l))
 any_true t P h (c ∷ v) (zero, d, l, e, p) = or_left (t c) (list_any t v) (h c (subst P (sym e) p))
 any_true t P h (c ∷ v) (suc k, d, l, e, p) = or_right (t c) (list_any t v) (any_true t P h v (k, d, omega (arith, l), e, p))
 
-int_lt-from : (a b : ℤ) → a <ℤ b → int_lt a b ≡ true
+pub int_lt-from : (a b : ℤ) → a <ℤ b → int_lt a b ≡ true
 int_lt-from a b h = ⊎_elim (λ (e : int_lt a b ≡ true). e) (λ (e : int_lt a b ≡ false). absurd (omega (arith, ints, e, h))) (cases_Bool (int_lt a b))
 
 int_le-to : (a b : ℤ) → int_le a b ≡ true → a ≤ℤ b
