@@ -26,8 +26,8 @@ use Rattle.lie_letters.proofs.RootSystemLemmas.{root_laws}
 use Rattle.lie_letters.proofs.PositiveRootLemmas.{positive_laws}
 use Rattle.lie_letters.proofs.CollectingLemmas.{collect_laws}
 use Rattle.lie_letters.proofs.BridgeLemmas.{commutator_joined}
-use Rattle.lie_letters.proofs.LoadedTest.{loaded_from}
-use Rattle.lie_letters.proofs.TableTest.{constants_test, constants_from}
+use Rattle.lie_datum.proofs.LoadedTest.{loaded_from}
+use Rattle.lie_const.proofs.TableTest.{constants_test, constants_from}
 
 -- x and y, and six zeros
 abbrev pub pair : ℤ → ℤ → Vector

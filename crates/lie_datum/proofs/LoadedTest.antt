@@ -10,14 +10,12 @@ use Rattle.std.specs.declared.cmp.Ordering.TheVariants.{Less, Equal, Greater}
 use Rattle.std.specs.List.{list_all, list_any, All, Any, AllByRecursion}
 use Rattle.std.specs.List.Sorted.{IsStrictlySortedBy}
 use Rattle.lie_datum.specs.declared.root_pair.Root.{Root}
-use Rattle.lie_datum.specs.Vectors.{Vector, entry, IsVectorIn}
-use Rattle.lie_datum.specs.RootDatum.{Base, rank, vector, simple, opposite, reflected, cartan, IsRoot, is_simple, is_reflected, IsSimpleIndex, IsPositive, IsWithin, IsInput}
+use Rattle.lie_datum.specs.Vectors.{Vector, entry, IsVectorIn, same_vector}
+use Rattle.lie_datum.specs.RootDatum.{Base, rank, vector, simple, opposite, reflected, cartan, same_root, IsRoot, is_simple, is_reflected, IsSimpleIndex, IsPositive, IsWithin, IsInput}
 use Rattle.lie_datum.specs.RootList.{RootDatum, all_roots, IsLoaded, root_cmp}
 use Rattle.lie_base.proofs.Members.{In, here, there, from_map}
 use Rattle.lie_datum.proofs.ClosureLemmas.{in_from_contains, contains_from_in}
-use Rattle.lie_letters.specs.Names.{same_root}
-use Rattle.lie_const.specs.StructureConstants.{same_vector}
-use Rattle.lie_letters.proofs.NameLemmas.{same_vector-self, same_root-true}
+use Rattle.lie_datum.proofs.RootOrder.{same_vector-self, same_root-true}
 
 -- ---- tests on numbers and lists
 abbrev pub each_below : ℕ → (ℕ → Bool) → Bool
