@@ -7,7 +7,8 @@ use Rattle.lie_datum.specs.Numbers.{place}
 use Rattle.lie_datum.proofs.Entries.{within_or_past}
 use Rattle.lie_datum.proofs.NumberLemmas.{place_within}
 use Rattle.lie_datum.proofs.SignedRoots.{same_place}
-use Rattle.lie_orbit.specs.Lowering.{coroot_pairing, IsHalf, IsFirstHigh, less_root, Lowers, low, step}
+use Rattle.lie_orbit.specs.Weights.{coroot_pairing}
+use Rattle.lie_orbit.specs.Lowering.{IsHalf, IsFirstHigh, less_root, Lowers, low, step}
 use Rattle.lie_orbit.specs.Laws.{LowersOneWay}
 
 one_half : (m a b : ℤ) → IsHalf m a → IsHalf m b → a ≡ b
