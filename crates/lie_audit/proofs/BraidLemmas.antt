@@ -22,7 +22,7 @@ module _ (d : RootDatum) (loaded : IsLoaded d) (i j : ℕ) (left : IsSimpleIndex
   pub cartan_small : unsigned_abs (cartan d.base i j) ≤ 80000
   cartan_small =
       let y = coroot j right in
-      let b = abs_pairing (simple_root d.base i) (simple_coroot d.base j) (simple_small d loaded i left) y.1 in
+      let b = abs_pairing 100 100 (simple_root d.base i) (simple_coroot d.base j) (simple_small d loaded i left) y.1 in
       omega (arith, b, y.0)
     where
       coroot : (j : ℕ) → IsSimpleIndex d.base j → (length (simple_coroot d.base j) ≡ 8) × IsWithin 100 (simple_coroot d.base j)

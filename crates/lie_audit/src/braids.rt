@@ -24,10 +24,7 @@ fn cartan_integer(datum: &Datum, i: usize, j: usize) -> i128
     ensures bound { unsigned_abs result ≤ 80000 }
 {
     datum.loaded();
-    pairing(
-        datum.root(simple(datum, i)),
-        datum.coroot(simple(datum, j)),
-    )
+    pairing(datum.root(simple(datum, i)), datum.coroot(simple(datum, j)))
 }
 
 /// The product c_ij c_ji of two Cartan integers.

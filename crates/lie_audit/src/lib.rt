@@ -13,7 +13,6 @@ mod faults;
 mod laws;
 mod letter_matrices;
 mod sign_checks;
-
 mod word_matrices;
 
 pub use braids::braid;

@@ -64,7 +64,8 @@ pub one_list : OrbitsAreOneList
 one_list d w xs ys p q = one_orbit d w xs ys p q
 
 -- ---- one size
-order : (x y : ℕ) → ¬ (x < y) → ¬ (y < x) → x ≡ y
+-- numbers of which neither is less are equal
+pub order : (x y : ℕ) → ¬ (x < y) → ¬ (y < x) → x ≡ y
 order x y m n = ⊎_elim (λ h. absurd (m h)) (λ h. ⊎_elim (λ k. absurd (n k)) (λ k. omega (arith, h, k)) (within_or_past y x)) (within_or_past x y)
 
 simple_list : (ws : List Vector) → AreDistinct ws → HasNoRepeats ws

@@ -22,14 +22,15 @@ use Rattle.lie_orbit.specs.Lowering.{IsHighRoot, IsFirstHigh}
 use Rattle.lie_orbit.specs.Orbits.{IsReached, start, next, reflected_weight}
 
 -- ---- bounds
-pub abs_pairing : (x y : Vector) → IsWithin 100 x → IsWithin 100 y → unsigned_abs (pairing x y) ≤ 10000 * length y
-abs_pairing [] y p q = omega arith
-abs_pairing (a ∷ x) [] p q = omega arith
-abs_pairing (a ∷ x) (b ∷ y) p q =
-    let h = abs_pairing x y (λ k z l. p (suc k) z (omega (arith, l))) (λ k z l. q (suc k) z (omega (arith, l))) in
+pub abs_pairing : (m n : ℕ) (x y : Vector) → IsWithin m x → IsWithin n y → unsigned_abs (pairing x y) ≤ (m * n) * length y
+abs_pairing m n [] y p q = omega arith
+abs_pairing m n (a ∷ x) [] p q = omega arith
+abs_pairing m n (a ∷ x) (b ∷ y) p q =
+    let h = abs_pairing m n x y (λ k z l. p (suc k) z (omega (arith, l))) (λ k z l. q (suc k) z (omega (arith, l))) in
     let s = abs_add (a *ℤ b) (pairing x y) in
-    let m = abs_mul a b 100 100 (p zero (pos 0) (omega arith)) (q zero (pos 0) (omega arith)) in
-    omega (arith, h, s, m)
+    let k = abs_mul a b m n (p zero (pos 0) (omega arith)) (q zero (pos 0) (omega arith)) in
+    let e : (m * n) * suc (length y) ≡ m * n + (m * n) * length y = omega arith in
+    omega (arith, h, s, k, e)
 
 pub from_entries : (n : ℕ) (v : Vector) → ((k : ℕ) → unsigned_abs (entry v k) ≤ n) → IsWithin n v
 from_entries n v h k z l = subst (λ t. unsigned_abs t ≤ n) (get_or_default v k (pos 0) z l) (h k)
@@ -38,7 +39,7 @@ combination_within : (c : Vector) (vs : List Vector) → IsWithin 100 c → All 
 combination_within c vs p q l = from_entries 80000 (combination c vs) (λ k.
     (let column : Vector = map (λ v. entry v k) vs in
     let small : IsWithin 100 column = from_entries 100 column (λ i. subst (λ t. unsigned_abs t ≤ 100) (sym (column_entry vs k i)) (entry_within 100 (get_or vs i []) k (vector_within 100 vs i q))) in
-    let bound = abs_pairing c column p small in
+    let bound = abs_pairing 100 100 c column p small in
     let long = length-column vs k in
     subst (λ t. unsigned_abs t ≤ 80000) (sym (entry-combination c vs k)) (omega (arith, bound, long, l))))
   where
@@ -152,6 +153,14 @@ module _ (d : RootDatum) where
   pub none_before : (P : ℤ → Type 0) (p : ℕ) → p < 2 * length d.positive → ((r : ℤ) → IsNumber d r → place (length d.positive) r < p → ¬ P r) →
       (s : ℤ) → IsNumber d s → place (length d.positive) s < place (length d.positive) (number_at (length d.positive) p) → ¬ P s
   none_before P p l before s n q = before s n (let e = (numbered_at d p l).place in omega (arith, q, e))
+
+  -- the first root of which P holds is one root
+  pub one_first : (P : ℤ → Type 0) (r s : ℤ) → IsNumber d r → IsNumber d s → P r → P s →
+      ((q : ℤ) → IsNumber d q → place (length d.positive) q < place (length d.positive) r → ¬ P q) → ((q : ℤ) → IsNumber d q → place (length d.positive) q < place (length d.positive) s → ¬ P q) → r ≡ s
+  one_first P r s n k p q f g =
+      let m = length d.positive in
+      same_place m r s (place_within d r n) (place_within d s k)
+      (⊎_elim (λ l. absurd (g r n l p)) (λ l. ⊎_elim (λ h. absurd (f s k h q)) (λ h. omega (arith, l, h)) (within_or_past (place m s) (place m r))) (within_or_past (place m r) (place m s)))
 
   pub high_first : (w : Vector) (p : ℕ) → p < 2 * length d.positive → IsHighRoot d w (number_at (length d.positive) p) → ((r : ℤ) → IsNumber d r → place (length d.positive) r < p → ¬ IsHighRoot d w r) → IsFirstHigh d w (number_at (length d.positive) p)
   high_first w p l high before = record { number = (numbered_at d p l).number; high = high; before = none_before (IsHighRoot d w) p l before }

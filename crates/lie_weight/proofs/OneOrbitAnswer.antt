@@ -10,23 +10,18 @@ use Rattle.lie_const.specs.Modules.{Module}
 use Rattle.lie_const.specs.Signs.{Signs}
 use Rattle.lie_weight.specs.declared.faults.ModuleFault.{ModuleFault}
 use Rattle.lie_weight.specs.declared.faults.ModuleFault.TheVariants.{NoMemory, NotMinuscule, Wide, Heavy, Huge}
-use Rattle.lie_orbit.specs.Weights.{IsMinuscule, IsFirstLargePairing}
+use Rattle.lie_orbit.specs.Weights.{IsMinuscule, HasLargePairing, IsFirstLargePairing}
+use Rattle.lie_orbit.proofs.WeightLemmas.{one_first}
 use Rattle.lie_orbit.specs.Orbits.{IsOrbit, IsOrbitSize}
-use Rattle.lie_orbit.proofs.OneOrbit.{one_orbit, most, one_size}
+use Rattle.lie_orbit.proofs.OneOrbit.{order, one_orbit, most, one_size}
 use Rattle.lie_weight.specs.Conjugation.{absolute_height, IsCompletedBelow, IsHuge, Precedes}
 use Rattle.lie_weight.specs.OrbitModules.{HasSteps, IsOrbitModule}
 use Rattle.lie_weight.specs.OrbitFaults.{IsHeavyAt, AreLight, IsFirstHeavyWeight, IsFirstHugeConjugate, LoadsOrbit, LoadsOrbitOneWay}
 use Rattle.lie_weight.proofs.UniqueLemmas.{powers_same, huge_same, one_module}
 
--- ---- numbers
-order : (x y : ℕ) → ¬ (x < y) → ¬ (y < x) → x ≡ y
-order x y m n = ⊎_elim (λ h. absurd (m h)) (λ h. ⊎_elim (λ k. absurd (n k)) (λ k. omega (arith, h, k)) (within_or_past y x)) (within_or_past x y)
-
 -- ---- the first root with a large pairing
 one_large : (d : RootDatum) (w : Vector) (r s : ℤ) → IsFirstLargePairing d w r → IsFirstLargePairing d w s → r ≡ s
-one_large d w r s a b =
-    same_place (length d.positive) r s (place_within d r a.number) (place_within d s b.number)
-    (order (place (length d.positive) r) (place (length d.positive) s) (λ l. b.before r a.number l a.large) (λ l. a.before s b.number l b.large))
+one_large d w r s a b = one_first d (HasLargePairing d w) r s a.number b.number a.large b.large a.before b.before
 
 -- ---- the number of members
 not_wide : (d : RootDatum) (w : Vector) (n : ℕ) (ws : List Vector) → 300 < n → IsOrbitSize d w n → IsOrbit d w ws → length ws ≤ 300 → ⊥
