@@ -21,7 +21,7 @@ use Rattle.lie_const.specs.StructureConstants.{same_vector, Table, coeffs_of, Is
 use Rattle.lie_const.specs.CommutatorTerms.{number_of, coefficient, term_vector, term_exponents, IsTerm}
 use Rattle.lie_const.specs.ConstantTables.{ConstantTable, value_of, terms_of, LoadsConstants}
 use Rattle.lie_letters.proofs.NameLemmas.{same_vector-true, same_vector-self}
-use Rattle.lie_letters.proofs.LoadedTest.{each_below, each_at}
+use Rattle.lie_datum.proofs.LoadedTest.{each_below, each_at}
 
 pub same_or : (a b : Bool) → (a || b) ≡ true → a ≡ false → b ≡ true
 same_or true b e h = absurd (true≢false h)

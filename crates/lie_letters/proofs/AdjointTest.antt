@@ -20,8 +20,8 @@ use Rattle.lie_const.specs.CommutatorTerms.{factorial}
 use Rattle.lie_const.specs.Modules.{Module, IsModule, dimension, divided_power, divided_powers, top}
 use Rattle.lie_const.specs.Adjoint.{adjoint_dimension, basis_vector, basis_weight, bracket, bracket_matrix, matrix_power, IsAdjoint, IsAdjointOf}
 use Rattle.lie_letters.proofs.NameLemmas.{same_vector-true, same_vector-self}
-use Rattle.lie_letters.proofs.LoadedTest.{each_below, each_at}
-use Rattle.lie_letters.proofs.TableTest.{each_number, number_at, is_equal}
+use Rattle.lie_datum.proofs.LoadedTest.{each_below, each_at}
+use Rattle.lie_const.proofs.TableTest.{each_number, number_at, is_equal}
 
 -- ---- sparse matrices
 -- the entry of a row and a column, in a list of those that are not 0

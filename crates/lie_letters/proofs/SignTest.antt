@@ -14,8 +14,8 @@ use Rattle.lie_const.specs.Modules.{Module}
 use Rattle.lie_const.specs.Signs.{SignTable, sign_entry, IsGoodSign, eta_of}
 use Rattle.lie_letters.specs.Braids.{carried_sign, alternating, IsBraidValue}
 use Rattle.lie_letters.specs.SignedFrames.{AreFrameSigns}
-use Rattle.lie_letters.proofs.LoadedTest.{each_below, each_at, int_lt-from}
-use Rattle.lie_letters.proofs.TableTest.{each_number, number_at, is_equal, same_or}
+use Rattle.lie_datum.proofs.LoadedTest.{each_below, each_at, int_lt-from}
+use Rattle.lie_const.proofs.TableTest.{each_number, number_at, is_equal, same_or}
 use Rattle.lie_letters.proofs.AdjointTest.{adjoint_test, adjoint_from}
 
 module _ (d : RootDatum) (n : Table) (v : Module) (t : SignTable) where
