@@ -23,6 +23,3 @@ pub use lowering::lower;
 pub use minuscule::first_large_pairing;
 pub use orbits::orbit;
 pub use vectors::less_multiple;
-
-#[cfg(test)]
-mod tests;

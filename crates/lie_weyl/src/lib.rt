@@ -17,6 +17,3 @@ pub use laws::{
     orders_of_products, shortest_words,
 };
 pub use weyl::Weyl;
-
-#[cfg(test)]
-mod tests;
