@@ -67,3 +67,21 @@ CommutatorTerms := function(D, r, s)
   od;
   return terms;
 end;
+
+# the positive root group over the field of p elements: generator k is x_k(1)
+RootGroup := function(D, p)
+  local F, collector, f, r, s, word, terms, term;
+  F := FreeGroup(IsSyllableWordsFamily, D.m, "x");
+  f := GeneratorsOfGroup(F);
+  collector := CombinatorialCollector(F, ListWithIdenticalEntries(D.m, p));
+  for r in [1..D.m] do for s in [r+1..D.m] do
+    word := f[s];
+    terms := ShallowCopy(CommutatorTerms(D, r, s));
+    Sort(terms, function(a, b) return a[1] < b[1]; end);
+    for term in terms do
+      if (term[4] mod p) <> 0 then word := word * f[term[1]]^((term[4]*(-1)^term[2]) mod p); fi;
+    od;
+    SetConjugate(collector, s, r, word);
+  od; od;
+  return GroupByRws(collector);
+end;

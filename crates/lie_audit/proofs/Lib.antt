@@ -5,6 +5,5 @@ pub mod TestLemmas
 pub mod BraidLemmas
 pub mod RootEntries
 pub mod WordMatrixLemmas
-pub mod WordTestLemmas
 pub mod OneAdjointLemmas
 pub mod AnswerLemmas

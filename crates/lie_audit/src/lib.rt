@@ -22,8 +22,3 @@ pub use laws::{
 };
 pub use testing::signs;
 pub use word_matrices::word_matrix;
-
-#[cfg(test)]
-mod tests;
-#[cfg(test)]
-mod word_tests;

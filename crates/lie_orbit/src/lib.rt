@@ -13,6 +13,3 @@ mod vectors;
 pub use laws::{lowers_one_way, small_sums_vanish};
 pub use lowering::lower;
 pub use vectors::pairing;
-
-#[cfg(test)]
-mod tests;

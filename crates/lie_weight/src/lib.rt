@@ -28,8 +28,3 @@ pub use adjoint::{negated_pairing, place_in_basis};
 pub use faults::ModuleFault;
 pub use laws::{adjoint_is_small, one_orbit_answer};
 pub use modules::Module;
-
-#[cfg(test)]
-mod adjoint_tests;
-#[cfg(test)]
-mod orbit_tests;

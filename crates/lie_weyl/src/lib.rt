@@ -17,6 +17,3 @@ pub use laws::{
     exchange, greedy_is_least, inverse_lengths, one_factor_more, orders_of_products, shortest_words,
 };
 pub use weyl::Weyl;
-
-#[cfg(test)]
-mod tests;

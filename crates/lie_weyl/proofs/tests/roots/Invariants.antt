@@ -1,6 +1,0 @@
-use Rattle.std.specs.List.{All}
-use Rattle.lie_datum.specs.RootList.{IsNumber}
-use Rattle.lie_weyl.proofs.tests.roots.Given as goal
-
-abbrev pub invariant-loop-k : goal.invariant-loop-k
-invariant-loop-k g l = All (IsNumber l.datum) l.roots.items

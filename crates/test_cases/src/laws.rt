@@ -1,0 +1,72 @@
+//! Each law that is a public function of a crate, called once.
+
+ghost use Rattle.std.specs.Prelude.{Ok};
+ghost use Rattle.lie_const.specs.ConstantTables.{LoadsConstants};
+
+use crate::{A_2, NamedDatum};
+use lie_const::Constants;
+use lie_datum::Datum;
+use lie_field::Field;
+use lie_ring::{FromIntegers, Ints};
+use std::alloc::Global;
+use std::process::Abort;
+
+/// A_2.
+fn datum(rt: &impl Abort, alloc: Global) -> Datum {
+    let named = NamedDatum::of(&A_2);
+    Datum::load(alloc, 2, named.simple_roots(), named.simple_coroots()).expect(rt, "loads")
+}
+
+#[test]
+fn laws_of_root_data(rt: HostRuntime) {
+    let datum = datum(&rt, rt.alloc());
+    datum.loaded();
+    datum.laws();
+    lie_datum::one_answer();
+    lie_datum::form_law();
+    lie_datum::root_pair_law();
+    lie_datum::height_law();
+    lie_datum::reflection_law();
+    lie_datum::simple_reflection_law();
+    lie_datum::simples_first();
+}
+
+#[test]
+fn laws_of_weyl_elements(_rt: HostRuntime) {
+    lie_weyl::one_factor_more();
+    lie_weyl::inverse_lengths();
+    lie_weyl::shortest_words();
+    lie_weyl::exchange();
+    lie_weyl::greedy_is_least();
+    lie_weyl::orders_of_products();
+}
+
+#[test]
+fn laws_of_constants(rt: HostRuntime) {
+    lie_const::one_table(&datum(&rt, rt.alloc()));
+    lie_const::one_answer();
+}
+
+/// The constants of a datum.
+fn constants(rt: &impl Abort, alloc: Global, datum: &Datum) -> Constants
+    ensures { LoadsConstants datum.now (Ok result) }
+{
+    Constants::load(alloc, datum).expect(rt, "loads")
+}
+
+/// The field of five elements.
+fn field(rt: &impl Abort, alloc: Global) -> Field {
+    Field::load(alloc, 5, 1, &[0], 2).expect(rt, "a field")
+}
+
+#[test]
+fn laws_of_collection(rt: HostRuntime) {
+    let alloc = rt.alloc();
+    let field = field(&rt, alloc);
+    let datum = datum(&rt, alloc);
+    let consts = constants(&rt, alloc, &datum);
+    lie_unip::collects_once(&field, &datum, &consts);
+    lie_unip::drops_zeros(&field, &datum, &consts);
+    lie_unip::joins_answers(&field, &datum, &consts);
+    lie_unip::carries_answers(&FromIntegers::new(&Ints, &field), &consts);
+}

@@ -1,0 +1,229 @@
+//! Rows on modules: weights, matrices of roots, signs and braid values, and lowered weights.
+
+ghost use Rattle.std.specs.Prelude.{◌≡◌, ◌↔◌, ◌≤◌, ◌×◌, IsTrue, IfOk, length, unsigned_abs};
+ghost use Rattle.lie_datum.specs.RootDatum.{IsWithin};
+ghost use Rattle.lie_const.specs.Adjoint.{IsAdjointOf};
+ghost use Rattle.lie_const.specs.Signs.{IsSignTable};
+
+use lie_audit::{BraidFault, SignFault, braid, signs as read_signs};
+use lie_const::Signs;
+use lie_datum::{Datum, RootId, Vector};
+use lie_mat::Mat;
+use lie_orbit::{lower, pairing};
+use lie_ring::Ints;
+use lie_weight::{Module, ModuleFault};
+use std::alloc::Global;
+use test_rows::{Answer, Roots, Stop, numbered, padded, pair, start};
+
+/// Answers a question about modules; false where it is about something else.
+pub(crate) fn about_spaces(
+    alloc: Global,
+    roots: &Roots,
+    table: &[i8],
+    question: &str,
+    lists: &[Vec<i128>],
+    answer: &mut Answer,
+) -> Result<bool, Stop> {
+    match (question, lists) {
+        ("lowered weight", [v]) => lowered(&roots.datum, v, answer)?,
+        ("pairing", [x, y]) => answer.number(paired(&weight(x)?, &weight(y)?)?)?,
+        ("weights of the adjoint module", [_]) => {
+            weights(&roots.datum, &adjoint(alloc, roots)?, answer)?
+        }
+        ("adjoint matrix", [letter]) => {
+            let (k, power) = pair(letter)?;
+            matrix(&roots.datum, &adjoint(alloc, roots)?, k, power, answer)?;
+        }
+        ("orbit", [v]) => orbit(alloc, &roots.datum, table, v, answer)?,
+        ("orbit matrix", [v, letter]) => {
+            let (k, power) = pair(letter)?;
+            let space = made(alloc, &roots.datum, table, v)?;
+            matrix(&roots.datum, &space, k, power, answer)?;
+        }
+        ("signs of the adjoint module", [_]) => found_signs(alloc, roots, answer)?,
+        ("braid values", [_]) => braids(alloc, &roots.datum, table, answer)?,
+        _ => return Ok(false),
+    }
+    Ok(true)
+}
+
+/// A weight with entries within 100.
+fn weight(list: &[i128]) -> Result<Vector, Stop>
+    ensures { IfOk result (IsWithin 100) }
+{
+    let v = padded(list)?;
+    if is_small(&v) {
+        Ok(v)
+    } else {
+        Err(Stop::NoQuestion)
+    }
+}
+
+/// Whether all entries are within 100.
+fn is_small(v: &Vector) -> bool
+    ensures { IsTrue result ↔ IsWithin 100 v.now }
+{
+    v.iter().all(|c| *c >= -100 && *c <= 100)
+}
+
+/// The pairing of two vectors with small entries.
+fn paired(x: &Vector, y: &Vector) -> Result<i128, Stop> {
+    if is_small(x) && is_small(y) {
+        Ok(pairing(x, y))
+    } else {
+        Err(Stop::NoQuestion)
+    }
+}
+
+/// The weight that a small weight lowers to.
+fn lowered(datum: &Datum, list: &[i128], answer: &mut Answer) -> Result<(), Stop> {
+    let v = weight(list)?;
+    Ok(answer.list(start(&lowered_of(datum, &v), datum.d()))?)
+}
+
+/// `lower` with no clause.
+fn lowered_of(datum: &Datum, v: &Vector) -> Vector
+    requires { IsWithin 100 v.now }
+{
+    lower(datum, v)
+}
+
+/// The adjoint module.
+pub(crate) fn adjoint(alloc: Global, roots: &Roots) -> Result<Module, Stop>
+    ensures adjoint { IfOk result (IsAdjointOf roots.now.datum) }
+    ensures positive { IfOk result (λ v. v.positive ≡ length roots.now.datum.positive) }
+{
+    Ok(Module::adjoint(alloc, &roots.datum, &roots.consts)?)
+}
+
+/// Writes the weights of a module.
+fn weights(datum: &Datum, space: &Module, answer: &mut Answer) -> Result<(), Stop> {
+    for a in 0..space.dim() {
+        if a > 0 {
+            answer.word("|")?;
+        }
+        answer.list(start(space.weight(a), datum.d()))?;
+    }
+    Ok(())
+}
+
+/// Writes the entries of E_r^(power) that are not 0, by columns: the row, the column and the entry.
+fn matrix(
+    datum: &Datum,
+    space: &Module,
+    k: i128,
+    power: i128,
+    answer: &mut Answer,
+) -> Result<(), Stop>
+    requires { space.now.positive ≡ length datum.now.positive }
+{
+    let r = numbered(datum, k)?;
+    let power = u32::try_from(power).map_err(|_| Stop::NoQuestion)?;
+    if power < 1 || power > space.top(r) {
+        return Ok(answer.word("none")?);
+    }
+    entries(space.power(r, power), answer)
+}
+
+/// Writes the entries of a matrix that are not 0.
+fn entries(matrix: &Mat<Ints>, answer: &mut Answer) -> Result<(), Stop> {
+    let mut first = true;
+    for col in 0..matrix.cols() {
+        for row in 0..matrix.rows() {
+            if let Some(n) = matrix.get(row, col) {
+                if !first {
+                    answer.word("|")?;
+                }
+                first = false;
+                answer.list(&[row as i128 + 1, col as i128 + 1, *n])?;
+            }
+        }
+    }
+    Ok(())
+}
+
+/// The signs of the last list of them.
+fn signs(alloc: Global, datum: &Datum, table: &[i8]) -> Result<Signs, Stop>
+    ensures { IfOk result (IsSignTable datum.now) }
+{
+    let count = datum.l().checked_mul(2 * datum.m());
+    if count != Some(table.len()) || !table.iter().all(|c| *c == 1 || *c == -1) {
+        return Err(Stop::NoQuestion);
+    }
+    Ok(Signs::of(datum, Vec::from_slice(alloc, table)?))
+}
+
+/// The module of an orbit, or its fault.
+fn orbit_of(alloc: Global, datum: &Datum, signs: &Signs, v: &Vector) -> Result<Module, ModuleFault>
+    requires signs { IsSignTable datum.now signs.now }
+    requires v { IsWithin 100 v.now }
+    ensures { IfOk result (λ space. space.positive ≡ length datum.now.positive) }
+{
+    Module::orbit(alloc, datum, signs, v)
+}
+
+/// Writes the weights of the module of an orbit, or its fault.
+fn orbit(
+    alloc: Global,
+    datum: &Datum,
+    table: &[i8],
+    v: &[i128],
+    answer: &mut Answer,
+) -> Result<(), Stop> {
+    let signs = signs(alloc, datum, table)?;
+    match orbit_of(alloc, datum, &signs, &weight(v)?) {
+        Ok(space) => weights(datum, &space, answer),
+        Err(ModuleFault::NotMinuscule(r)) => {
+            answer.word("not minuscule at")?;
+            Ok(answer.number(i128::from(r.number()))?)
+        }
+        Err(_) => Err(Stop::NoQuestion),
+    }
+}
+
+/// The module of an orbit.
+fn made(alloc: Global, datum: &Datum, table: &[i8], v: &[i128]) -> Result<Module, Stop>
+    ensures { IfOk result (λ space. space.positive ≡ length datum.now.positive) }
+{
+    let signs = signs(alloc, datum, table)?;
+    orbit_of(alloc, datum, &signs, &weight(v)?).map_err(|_| Stop::NoQuestion)
+}
+
+/// The signs that are read off the adjoint module.
+fn signs_of(alloc: Global, datum: &Datum, space: &Module) -> Result<Signs, SignFault>
+    requires { IsAdjointOf datum.now space.now }
+    ensures { IfOk result (IsSignTable datum.now) }
+{
+    read_signs(alloc, datum, space)
+}
+
+/// Writes the signs that are read off the adjoint module.
+fn found_signs(alloc: Global, roots: &Roots, answer: &mut Answer) -> Result<(), Stop> {
+    let datum = &roots.datum;
+    let space = adjoint(alloc, roots)?;
+    let Ok(signs) = signs_of(alloc, datum, &space) else {
+        return Err(Stop::NoQuestion);
+    };
+    for i in 0..datum.l() {
+        for place in 0..2 * datum.m() {
+            answer.number(signs.eta(i + 1, RootId::at(place, datum.m())))?;
+        }
+    }
+    Ok(())
+}
+
+/// `braid` with no clause.
+fn braid_of(datum: &Datum, signs: &Signs) -> Result<(), BraidFault>
+    requires { IsSignTable datum.now signs.now }
+{
+    braid(datum, signs)
+}
+
+/// Writes that all braid values are 1, or the first that isn't.
+fn braids(alloc: Global, datum: &Datum, table: &[i8], answer: &mut Answer) -> Result<(), Stop> {
+    match braid_of(datum, &signs(alloc, datum, table)?) {
+        Ok(()) => answer.word("all 1")?,
+        Err(fault) => answer.list(&[fault.i as i128, fault.j as i128, fault.value])?,
+    }
+    Ok(())
+}

@@ -1,0 +1,183 @@
+//! Rows on products of positive root elements over the field.
+
+ghost use Rattle.std.specs.Prelude.{◌≡◌, ◌<◌, ◌<ℤ◌, pos, Ok, IfOk, length};
+ghost use Rattle.lie_field.specs.FieldRing.{field_ring};
+ghost use Rattle.lie_field.specs.Quotient.{order};
+ghost use Rattle.lie_datum.specs.RootList.{IsNumber};
+ghost use Rattle.lie_const.specs.ConstantTables.{LoadsConstants};
+ghost use Rattle.lie_unip.specs.Collection.{AreEntries};
+ghost use Rattle.lie_weyl.specs.WeylElement.{IsElement};
+
+use crate::elements::element;
+use lie_datum::{Datum, RootId};
+use lie_field::{Fe, Field};
+use lie_unip::Unip;
+use lie_weyl::Weyl;
+use std::alloc::Global;
+use test_rows::{Answer, Roots, Stop, entry, numbered, pair};
+
+/// Answers a question about products; false where it is about something else.
+pub(crate) fn about_products(
+    alloc: Global,
+    field: &Field,
+    roots: &Roots,
+    question: &str,
+    lists: &[Vec<i128>],
+    answer: &mut Answer,
+) -> Result<bool, Stop> {
+    let u = match (question, lists) {
+        ("product", [a, b]) => {
+            let a = unipotent(alloc, field, roots, a)?;
+            let b = unipotent(alloc, field, roots, b)?;
+            product(alloc, field, roots, &a, &b)?
+        }
+        ("inverse", [a]) => {
+            let a = unipotent(alloc, field, roots, a)?;
+            inverse(alloc, field, roots, &a)?
+        }
+        ("letters", letters) => collected(alloc, field, roots, letters)?,
+        ("split", [a, w]) => {
+            let a = unipotent(alloc, field, roots, a)?;
+            let w = element(alloc, &roots.datum, w)?;
+            split(alloc, field, roots, &a, &w, answer)?;
+            return Ok(true);
+        }
+        _ => return Ok(false),
+    };
+    write_entries(&roots.datum, &u, answer)?;
+    Ok(true)
+}
+
+/// 1.
+fn one(alloc: Global, field: &Field, roots: &Roots) -> Result<Unip<Field>, Stop>
+    ensures { IfOk result (AreEntries (field_ring field.now) (length roots.now.datum.positive)) }
+{
+    Ok(Unip::one(alloc, field, &roots.datum)?)
+}
+
+/// The product with one letter more.
+fn pushed(
+    alloc: Global,
+    field: &Field,
+    roots: &Roots,
+    u: &Unip<Field>,
+    r: RootId,
+    a: Fe,
+) -> Result<Unip<Field>, Stop>
+    requires entries { AreEntries (field_ring field.now) (length roots.now.datum.positive) u.now }
+    requires number { IsNumber roots.now.datum r }
+    requires positive { pos 0 <ℤ r }
+    requires element { a < order field.now.given }
+    ensures { IfOk result (AreEntries (field_ring field.now) (length roots.now.datum.positive)) }
+{
+    Ok(u.push(alloc, field, &roots.datum, &roots.consts, r, &a)?)
+}
+
+/// The product with one letter more, at the k-th positive root and with the n-th element.
+fn with_letter(
+    alloc: Global,
+    field: &Field,
+    roots: &Roots,
+    u: &Unip<Field>,
+    k: i128,
+    n: i128,
+) -> Result<Unip<Field>, Stop>
+    requires { AreEntries (field_ring field.now) (length roots.now.datum.positive) u.now }
+    ensures { IfOk result (AreEntries (field_ring field.now) (length roots.now.datum.positive)) }
+{
+    let r = numbered(&roots.datum, k)?;
+    if r.number() <= 0 {
+        return Err(Stop::NoQuestion);
+    }
+    pushed(alloc, field, roots, u, r, entry(field, n)?)
+}
+
+/// The element with these entries, one for each positive root in order.
+fn unipotent(
+    alloc: Global,
+    field: &Field,
+    roots: &Roots,
+    list: &[i128],
+) -> Result<Unip<Field>, Stop>
+    ensures { IfOk result (AreEntries (field_ring field.now) (length roots.now.datum.positive)) }
+{
+    if list.len() != roots.datum.m() {
+        return Err(Stop::NoQuestion);
+    }
+    let mut u = one(alloc, field, roots)?;
+    for k in 0..list.len() {
+        u = with_letter(alloc, field, roots, &u, k as i128 + 1, list[k])?;
+    }
+    Ok(u)
+}
+
+/// The product of letters, each a root and an element.
+fn collected(
+    alloc: Global,
+    field: &Field,
+    roots: &Roots,
+    letters: &[Vec<i128>],
+) -> Result<Unip<Field>, Stop>
+    ensures { IfOk result (AreEntries (field_ring field.now) (length roots.now.datum.positive)) }
+{
+    let mut u = one(alloc, field, roots)?;
+    for letter in letters {
+        let (k, n) = pair(letter)?;
+        u = with_letter(alloc, field, roots, &u, k, n)?;
+    }
+    Ok(u)
+}
+
+fn product(
+    alloc: Global,
+    field: &Field,
+    roots: &Roots,
+    a: &Unip<Field>,
+    b: &Unip<Field>,
+) -> Result<Unip<Field>, Stop>
+    requires a { AreEntries (field_ring field.now) (length roots.now.datum.positive) a.now }
+    requires b { AreEntries (field_ring field.now) (length roots.now.datum.positive) b.now }
+    ensures { IfOk result (AreEntries (field_ring field.now) (length roots.now.datum.positive)) }
+{
+    Ok(a.mul(alloc, field, &roots.datum, &roots.consts, b)?)
+}
+
+fn inverse(
+    alloc: Global,
+    field: &Field,
+    roots: &Roots,
+    a: &Unip<Field>,
+) -> Result<Unip<Field>, Stop>
+    requires { AreEntries (field_ring field.now) (length roots.now.datum.positive) a.now }
+    ensures { IfOk result (AreEntries (field_ring field.now) (length roots.now.datum.positive)) }
+{
+    Ok(a.inv(alloc, field, &roots.datum, &roots.consts)?)
+}
+
+/// Writes the part of the roots that w keeps positive, and the other part.
+fn split(
+    alloc: Global,
+    field: &Field,
+    roots: &Roots,
+    a: &Unip<Field>,
+    w: &Weyl,
+    answer: &mut Answer,
+) -> Result<(), Stop>
+    requires a { AreEntries (field_ring field.now) (length roots.now.datum.positive) a.now }
+    requires w { IsElement roots.now.datum w.now }
+{
+    let (first, second) = a.split(alloc, field, &roots.datum, &roots.consts, w)?;
+    write_entries(&roots.datum, &first, answer)?;
+    answer.word("|")?;
+    write_entries(&roots.datum, &second, answer)
+}
+
+/// Writes the numbers of the entries.
+fn write_entries(datum: &Datum, u: &Unip<Field>, answer: &mut Answer) -> Result<(), Stop>
+    requires { length u.now ≡ length datum.now.positive }
+{
+    for k in 0..datum.m() {
+        answer.number(i128::from(u.coeff(k + 1).number()))?;
+    }
+    Ok(())
+}

@@ -1,0 +1,79 @@
+//! The question of a row, by its words.
+
+use crate::constants::about_constants;
+use crate::elements::about_elements;
+use crate::products::about_products;
+use crate::roots::about_roots;
+use crate::vectors::about_vectors;
+use lie_field::Field;
+use std::alloc::Global;
+use test_rows::{Answer, Roots, Stop, load_datum, load_field, read_lists};
+
+/// What rows are about: the last field and datum before them.
+#[derive(Drop)]
+pub(crate) struct Setting {
+    pub(crate) field: Option<Field>,
+    pub(crate) roots: Option<Roots>,
+}
+
+/// What stands behind a row: its answer, and nothing where the line is a heading.
+pub(crate) fn answered(alloc: Global, setting: &mut Setting, line: &str) -> Result<String, Stop> {
+    if line.starts_with('#') {
+        return Ok(String::new(alloc));
+    }
+    let Some((question, text)) = line.split_once(':') else {
+        return Ok(String::new(alloc));
+    };
+    let mut answer = Answer::new(alloc)?;
+    match question {
+        "datum" => setting.roots = load_datum(alloc, text, &mut answer)?,
+        _ => {
+            let lists = read_lists(alloc, text, "|")?;
+            about_lists(alloc, setting, question, &lists, &mut answer)?;
+        }
+    }
+    Ok(answer.text())
+}
+
+/// Answers a question about lists of numbers.
+fn about_lists(
+    alloc: Global,
+    setting: &mut Setting,
+    question: &str,
+    lists: &[Vec<i128>],
+    answer: &mut Answer,
+) -> Result<(), Stop> {
+    match question {
+        "field" => setting.field = load_field(alloc, lists, answer)?,
+        _ => about_loaded(alloc, setting, question, lists, answer)?,
+    }
+    Ok(())
+}
+
+/// Answers a question about the datum, or about the datum and the field.
+fn about_loaded(
+    alloc: Global,
+    setting: &Setting,
+    question: &str,
+    lists: &[Vec<i128>],
+    answer: &mut Answer,
+) -> Result<(), Stop> {
+    let Some(roots) = &setting.roots else {
+        return Err(Stop::NoQuestion);
+    };
+    if about_roots(&roots.datum, question, lists, answer)?
+        || about_constants(alloc, roots, question, lists, answer)?
+        || about_elements(alloc, &roots.datum, question, lists, answer)?
+    {
+        return Ok(());
+    }
+    let Some(field) = &setting.field else {
+        return Err(Stop::NoQuestion);
+    };
+    if about_products(alloc, field, roots, question, lists, answer)?
+        || about_vectors(alloc, field, &roots.datum, question, lists, answer)?
+    {
+        return Ok(());
+    }
+    Err(Stop::NoQuestion)
+}
