@@ -5,8 +5,8 @@
     python3 tables.py GAP_VALUES LIE_VALUES CRATES          CRATES/test_tables/stdin and stdout, CRATES/test_modules/stdin and stdout
 
 GAP_VALUES is what `tables.g` prints (`gap -q -b tables.g </dev/null`): roots in order, structure constants and products.
-What neither program answers is worked out here from the definitions, by `relations.py`, or stands here as it was worked out by hand; where two of these
-sources know a value they are compared. Nothing is taken from the program.
+What neither program answers is worked out here from the definitions, by `relations.py`, or stands here as it was worked out by
+hand; where two of these sources know a value they are compared. Nothing is taken from the program.
 """
 import random
 import re

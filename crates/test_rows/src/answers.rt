@@ -61,17 +61,6 @@ impl Answer {
         self.word("|")?;
         self.list(list)
     }
-
-    /// Writes lists with bars between them.
-    pub fn lists(&mut self, lists: &[Vec<i128>]) -> Result<(), AllocError> {
-        for (k, list) in lists.iter().enumerate() {
-            if k > 0 {
-                self.word("|")?;
-            }
-            self.list(list)?;
-        }
-        Ok(())
-    }
 }
 
 /// The lists of a row, where `mark` stands between two.

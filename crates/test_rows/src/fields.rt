@@ -44,10 +44,9 @@ fn small(alloc: Global, list: &[i128]) -> Result<Vec<u32>, Stop> {
 
 /// `Field::load` with no clause.
 fn field_of(alloc: Global, p: u32, coefficients: &[u32], g: u32) -> Result<Field, Stop> {
-    let k = coefficients.len() as u32;
-    if k as usize != coefficients.len() {
+    let Ok(k) = u32::try_from(coefficients.len()) else {
         return Err(Stop::NoQuestion);
-    }
+    };
     Field::load(alloc, p, k, coefficients, g).map_err(|_| Stop::NoQuestion)
 }
 
@@ -63,6 +62,7 @@ pub fn entry(field: &Field, n: i128) -> Result<Fe, Stop>
 }
 
 /// The elements with these numbers.
+#[tactic(auto, using(crate::proofs::ElementLemmas::by_recursion))]
 pub fn elements(alloc: Global, field: &Field, list: &[i128]) -> Result<Vec<Fe>, Stop>
     ensures { IfOk result (λ a. AllByRecursion (λ n. n < order field.now.given) a.items) }
 {

@@ -105,10 +105,13 @@ pub fn numbered(datum: &Datum, k: i128) -> Result<RootId, Stop>
     let Ok(k) = i32::try_from(k) else {
         return Err(Stop::NoQuestion);
     };
-    match datum.id(k) {
-        Some(r) if r.number().unsigned_abs() as usize <= datum.m() => Ok(r),
-        _ => Err(Stop::NoQuestion),
+    let Some(r) = datum.id(k) else {
+        return Err(Stop::NoQuestion);
+    };
+    if r.number().unsigned_abs() as usize > datum.m() {
+        return Err(Stop::NoQuestion);
     }
+    Ok(r)
 }
 
 /// The index of a simple root.
