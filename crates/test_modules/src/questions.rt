@@ -4,7 +4,7 @@ use crate::spaces::about_spaces;
 use crate::words::about_words;
 use lie_field::Field;
 use std::alloc::Global;
-use test_rows::{Answer, Roots, Stop, load_datum, load_field, read_lists};
+use test_rows::{Answer, Roots, Stop, load_datum, load_field, read_lists, row};
 
 /// What rows are about: the last field, datum and list of signs before them.
 #[derive(Drop)]
@@ -16,10 +16,7 @@ pub(crate) struct Setting {
 
 /// What stands behind a row: its answer, and nothing where the line is a heading.
 pub(crate) fn answered(alloc: Global, setting: &mut Setting, line: &str) -> Result<String, Stop> {
-    if line.starts_with('#') {
-        return Ok(String::new(alloc));
-    }
-    let Some((question, text)) = line.split_once(':') else {
+    let Some((question, text)) = row(line) else {
         return Ok(String::new(alloc));
     };
     let mut answer = Answer::new(alloc)?;

@@ -1,8 +1,9 @@
 //! Rows on modules: weights, matrices of roots, signs and braid values, and lowered weights.
 
-ghost use Rattle.std.specs.Prelude.{◌≡◌, ◌↔◌, ◌≤◌, ◌×◌, IsTrue, IfOk, length, unsigned_abs};
+ghost use Rattle.std.specs.Prelude.{◌≡◌, ◌↔◌, IsTrue, IfOk, length};
 ghost use Rattle.lie_datum.specs.RootDatum.{IsWithin};
 ghost use Rattle.lie_const.specs.Adjoint.{IsAdjointOf};
+ghost use Rattle.lie_const.specs.Modules.{IsModule};
 ghost use Rattle.lie_const.specs.Signs.{IsSignTable};
 
 use lie_audit::{BraidFault, SignFault, braid, signs as read_signs};
@@ -91,6 +92,7 @@ fn lowered_of(datum: &Datum, v: &Vector) -> Vector
 /// The adjoint module.
 pub(crate) fn adjoint(alloc: Global, roots: &Roots) -> Result<Module, Stop>
     ensures adjoint { IfOk result (IsAdjointOf roots.now.datum) }
+    ensures space { IfOk result (IsModule roots.now.datum) }
     ensures positive { IfOk result (λ v. v.positive ≡ length roots.now.datum.positive) }
 {
     Ok(Module::adjoint(alloc, &roots.datum, &roots.consts)?)

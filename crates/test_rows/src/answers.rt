@@ -63,6 +63,14 @@ impl Answer {
     }
 }
 
+/// The question and the lists of a row, unless the line is a heading.
+pub fn row(line: &str) -> Option<(&str, &str)> {
+    if line.starts_with('#') {
+        return None;
+    }
+    line.split_once(':')
+}
+
 /// The lists of a row, where `mark` stands between two.
 pub fn read_lists(alloc: Global, text: &str, mark: &str) -> Result<Vec<Vec<i128>>, Stop> {
     let mut lists = Vec::new(alloc);

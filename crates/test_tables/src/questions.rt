@@ -7,7 +7,7 @@ use crate::roots::about_roots;
 use crate::vectors::about_vectors;
 use lie_field::Field;
 use std::alloc::Global;
-use test_rows::{Answer, Roots, Stop, load_datum, load_field, read_lists};
+use test_rows::{Answer, Roots, Stop, load_datum, load_field, read_lists, row};
 
 /// What rows are about: the last field and datum before them.
 #[derive(Drop)]
@@ -18,10 +18,7 @@ pub(crate) struct Setting {
 
 /// What stands behind a row: its answer, and nothing where the line is a heading.
 pub(crate) fn answered(alloc: Global, setting: &mut Setting, line: &str) -> Result<String, Stop> {
-    if line.starts_with('#') {
-        return Ok(String::new(alloc));
-    }
-    let Some((question, text)) = line.split_once(':') else {
+    let Some((question, text)) = row(line) else {
         return Ok(String::new(alloc));
     };
     let mut answer = Answer::new(alloc)?;
