@@ -7,7 +7,7 @@
 #![tactic(auto)]
 
 mod case;
-mod page;
+mod case_sink;
 mod replay;
 mod script;
 mod spelling;

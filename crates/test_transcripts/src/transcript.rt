@@ -79,8 +79,8 @@ fn push_outcome(
         }
     }
     let case = Case::read(alloc, scripts, &given)?;
-    let (status, page) = replay(alloc, case);
-    push_output(text, page.bytes())?;
+    let (status, sink) = replay(alloc, case);
+    push_output(text, sink.bytes())?;
     writeln!(text, "status {status:?}")?;
     Ok(())
 }

@@ -4,18 +4,19 @@ ghost use Rattle.lie_kit.specs.Streams.{PushesSome, PushMoves, PushCounts};
 
 use lie_kit::{MemSink, Push, Sink};
 
-/// A sink over another one, which it reaches but at the calls with a number in `wants`, counted from 1.
+/// What a case writes into: a sink in memory, which is not reached at the calls with a number in `wants`,
+/// counted from 1.
 #[derive(Drop)]
-pub struct Page {
-    sink: MemSink,
+pub struct CaseSink {
+    memory: MemSink,
     wants: Vec<u64>,
     calls: u64,
 }
 
-impl Page {
-    pub fn new(sink: MemSink, wants: Vec<u64>) -> Page {
-        Page {
-            sink,
+impl CaseSink {
+    pub fn new(memory: MemSink, wants: Vec<u64>) -> CaseSink {
+        CaseSink {
+            memory,
             wants,
             calls: 0,
         }
@@ -23,20 +24,20 @@ impl Page {
 
     /// The bytes written so far.
     pub fn bytes(&self) -> &[u8] {
-        self.sink.bytes()
+        self.memory.bytes()
     }
 }
 
-impl Sink for Page {
-    ghost written = { λ page. Some page.sink.written };
+impl Sink for CaseSink {
+    ghost written = { λ sink. Some sink.memory.written };
 
-    ghost faults = { λ page. page.sink.faults };
+    ghost faults = { λ sink. sink.memory.faults };
 
     fn push(&mut self, from: &[u8]) -> Push {
         self.calls = self.calls.saturating_add(1);
         if self.wants.contains(&self.calls) {
             return Push::NoMemory;
         }
-        self.sink.push(from)
+        self.memory.push(from)
     }
 }
