@@ -57,7 +57,7 @@ least() {
     done | sort -n | head -1
 }
 
-"$top/lie" run <"$top/examples/torus.lie" >/dev/null
+"$top/prove" >&2
 echo "$types" | while read -r name prime generator roots count rows; do
     [ -n "$name" ] || continue
     # shellcheck disable=SC2086

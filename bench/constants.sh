@@ -34,7 +34,7 @@ least() {
 
 { e8; echo load; } >"$rooms/with"
 e8 >"$rooms/without"
-"$top/lie" run <"$rooms/with" >/dev/null
+"$top/prove" >&2
 awk -v with="$(least "$rooms/with")" -v without="$(least "$rooms/without")" 'BEGIN { printf "lie  load of E_8: %.1f ms\n", with - without }'
 
 if [ -n "${GAP:-}" ]; then

@@ -4,8 +4,8 @@
 #   sh bench/relations.sh
 #
 # In each script the `matrix` lines stand in pairs, the two sides of one relation. Where python3 is there, the whole output is also
-# compared with what bench/relations.py works out from the definitions. The scripts of A_2 and G_2 over five are stored runs of the gate
-# too: that they are still the same is checked first.
+# compared with what bench/relations.py works out from the definitions. The scripts of A_2 and G_2 over five are cases of the gate too, in
+# crates/test_transcripts/stdin: that they and their replies are still the same is checked first.
 set -eu
 here=$(cd "$(dirname "$0")" && pwd)
 top=$(dirname "$here")
@@ -23,11 +23,23 @@ differing() {
         END { if (reply != matrices) bad++; printf "%d %d\n", pairs, bad }' "$1" "$2"
 }
 
-"$top/lie" run <"$top/examples/torus.lie" >/dev/null
+# the lines with a mark, of the case with this name
+lines_of() {
+    awk -v name="case $1" -v mark="$2 " '$0 == name { inside = 1; next } inside && $0 == "" { exit }
+        inside && index($0, mark) == 1 { print substr($0, 3) }' "$top/crates/test_transcripts/stdin"
+}
+
+"$top/prove" >&2 || exit 70
 if command -v python3 >/dev/null 2>&1; then python3 "$here/relations.py" "$rooms/worked" >/dev/null; fi
 failed=0
-cmp "$here/relations/A2_5.lie" "$top/crates/relations_a2/stdin" || failed=1
-cmp "$here/relations/G2_5.lie" "$top/crates/relations_g2/stdin" || failed=1
+for name in A2 G2; do
+    lines_of "relations of $name over 5" '>' >"$rooms/script"
+    cmp "$here/relations/${name}_5.lie" "$rooms/script" || failed=1
+    if [ -f "$rooms/worked/${name}_5.out" ]; then
+        lines_of "relations of $name over 5" '<' >"$rooms/replies"
+        cmp "$rooms/worked/${name}_5.out" "$rooms/replies" || failed=1
+    fi
+done
 for script in "$here"/relations/*.lie; do
     name=$(basename "$script" .lie)
     "$top/crates/lie_cli/out/lie_cli" run <"$script" >"$rooms/out" || failed=1

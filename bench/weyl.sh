@@ -54,7 +54,7 @@ report() {
 words >"$rooms/words"
 { e8; sed 's/^/weyl/' "$rooms/words"; } >"$rooms/with"
 { e8; sed 's/.*/weyl -/' "$rooms/words"; } >"$rooms/without"
-"$top/lie" run <"$rooms/without" >/dev/null
+"$top/prove" >&2
 report lie "$(least "$rooms/with" "$top/crates/lie_cli/out/lie_cli" run)" "$(least "$rooms/without" "$top/crates/lie_cli/out/lie_cli" run)"
 
 if [ -n "${LIE:-}" ]; then
