@@ -29,6 +29,8 @@ def main():
     said = tuple(re.search(r"longest chain is ((?:lie_\w+ < )+lie_\w+)", text)[1].split(" < "))
     if len(said) != len(chain("lie_cli")) or any(low not in below[high] for low, high in zip(said, said[1:])):
         faults.append(f"the longest chain is {' < '.join(chain('lie_cli'))}: {len(chain('lie_cli'))} crates")
+    files = {name for _, _, names in os.walk(os.path.join(sources.TOP, "crates")) for name in names}
+    faults += [f"there is no {it}" for it in re.findall(r"`(\w+\.antt)`", text) if it not in files]
     faults += [f"{crate} has no row" for crate in below if not re.search(rf"^\|[^|]*`{crate}`", text, re.M)]
     for it in faults:
         print(f"docs/ARCHITECTURE.md: {it}")
