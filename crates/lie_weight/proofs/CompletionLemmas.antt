@@ -17,6 +17,7 @@ use Rattle.lie_const.specs.Signs.{Signs}
 use Rattle.lie_weight.specs.declared.factors.Factors.{Factors}
 use Rattle.lie_weight.specs.OrbitModules.{step_matrix, StepsBy, HasSteps}
 use Rattle.lie_mat.specs.Wide.{IsHugeMatrix}
+use Rattle.lie_weight.specs.Conjugation.{absolute_height, reflected_height, IsLowering, conjugated, IsConjugate, IsCompletedAt, absolute_element, absolute_weyl, work, IsHuge, IsFirstHuge, IsCompletedBelow}
 use Rattle.lie_weight.specs.Factors.{IsOfSize, AreFactors, AreModuleFactors, work_on}
 use Rattle.lie_weight.specs.Completion.{Keeps, with_powers, IsSingle, IsStepped, IsBefore, IsPartly, AreAllFactors}
 use Rattle.lie_weight.proofs.WeightLemmas.{simple_some}

@@ -15,6 +15,7 @@ use Rattle.lie_datum.proofs.Entries.{within_or_past}
 use Rattle.lie_datum.proofs.VectorLemmas.{abs_add}
 use Rattle.lie_weight.specs.declared.factors.Factors.{Factors}
 use Rattle.lie_mat.specs.Wide.{IsHugeMatrix}
+use Rattle.lie_weight.specs.Conjugation.{absolute}
 use Rattle.lie_weight.specs.Factors.{IsOfSize, IsBelow, IsNatural, HasDiagonal, IsBoundedBy, IsStepping, one_plus, one_plus_entry, sandwich, work_on, AreFactors, AreFactorsOf}
 use Rattle.lie_weight.proofs.SizeLemmas.{product-size, product_size-mono, natural_size, natural-product, below-product, grows_right, diagonal-product, bounded-product, wide_size, not_wide}
 

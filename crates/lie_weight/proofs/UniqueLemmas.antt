@@ -20,6 +20,7 @@ use Rattle.lie_const.specs.Signs.{Signs}
 use Rattle.lie_weight.specs.Orbits.{weight_cmp, IsOrbit}
 use Rattle.lie_weight.specs.OrbitModules.{step_matrix, StepsBy, HasSteps}
 use Rattle.lie_mat.specs.Wide.{IsHugeMatrix}
+use Rattle.lie_weight.specs.Conjugation.{absolute_height, IsLowering, conjugated, IsCompletedBelow, absolute_weyl, IsHuge}
 use Rattle.lie_weight.specs.Factors.{work_on, one_plus, sandwich}
 use Rattle.lie_weight.proofs.WeightLemmas.{simple_some}
 use Rattle.lie_weight.proofs.OrderLemmas.{weight_total}

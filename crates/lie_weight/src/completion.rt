@@ -9,6 +9,7 @@ ghost use Rattle.lie_datum.specs.RootList.{IsNumber};
 ghost use Rattle.lie_const.specs.Modules.{dimension, top, divided_power};
 ghost use Rattle.lie_const.specs.Signs.{IsSignTable, eta_of};
 ghost use Rattle.lie_mat.specs.Wide.{IsHugeMatrix};
+ghost use Rattle.lie_weight.specs.Conjugation.{absolute_height, IsLowering, IsCompleted, IsHuge};
 ghost use Rattle.lie_weight.specs.OrbitModules.{HasSteps};
 ghost use Rattle.lie_weight.specs.Factors.{AreFactors, work_on};
 ghost use Rattle.lie_weight.specs.Completion.{Keeps, IsStepped, IsPartly, AreAllFactors, IsConjugateFault};

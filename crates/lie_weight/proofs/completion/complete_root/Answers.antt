@@ -9,6 +9,7 @@ use Rattle.lie_datum.proofs.NumberLemmas.{place_within}
 use Rattle.lie_const.specs.Modules.{dimension, divided_power}
 use Rattle.lie_const.specs.Signs.{eta_of}
 use Rattle.lie_mat.specs.Wide.{IsHugeMatrix}
+use Rattle.lie_weight.specs.Conjugation.{absolute_height}
 use Rattle.lie_weight.specs.Factors.{AreModuleFactors, work_on}
 use Rattle.lie_weight.specs.Completion.{IsPartly, IsSingle, AreAllFactors}
 use Rattle.lie_weight.proofs.StepLemmas.{keeps_powers}
