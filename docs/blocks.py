@@ -4,7 +4,7 @@ heading are one session.
 
     python3 docs/blocks.py               each session stands as a case of crates/test_transcripts, with the same replies
     python3 docs/blocks.py --run ./lie   runs each session, and compares
-    python3 docs/blocks.py --cases       prints the sessions as such cases
+    python3 docs/blocks.py --add         writes the sessions as such cases, behind the other cases of the crate
     python3 docs/blocks.py --scripts FOLDER    writes the script of each session into a file of the folder
 """
 import os
@@ -15,6 +15,7 @@ import sys
 TOP = os.path.dirname(os.path.dirname(os.path.abspath(__file__)))
 CASES = os.path.join(TOP, "crates", "test_transcripts", "stdin")
 PAGES = ["README.md", "docs/TOUR.md"]
+HEADING = "# The sessions of README.md and of docs/TOUR.md, as docs/blocks.py --add writes them."
 # words of lines that have no reply when they are accepted
 QUIET = ("field", "datum", "root", "coroot")
 STATUS = ["Done", "Refused", "Usage", "LoadRefused"]
@@ -44,6 +45,10 @@ class Session:
             if bool(lines) == is_quiet and not (is_quiet and lines[0].startswith("refused ")):
                 yield f"{self.page}, {self.title}: {line}"
 
+    def case(self):
+        lines = [f"case {self.name()}", *(f"> {line}" for line in self.script()), *(f"< {line}" for line in self.replies())]
+        return "\n".join([*lines, f"status {self.status()}"]) + "\n"
+
     def name(self):
         return f"{os.path.basename(self.page)[:-3]}, {self.title}"
 
@@ -66,23 +71,30 @@ def sessions():
 
 
 def stored():
-    """The cases of the crate that replays transcripts: script lines and replies."""
-    scripts, cases = {}, []
+    """The cases of the crate that replays transcripts: script lines, replies, status."""
     if not os.path.exists(CASES):
-        return cases
+        return []
+    scripts, cases = {}, []
     for paragraph in open(CASES, encoding="utf-8").read().split("\n\n"):
         head, *lines = paragraph.strip("\n").split("\n")
-        if head.startswith("script "):
-            scripts[head[7:]] = [line[2:] for line in lines if line.startswith("> ")]
-        elif head.startswith("case"):
-            script = []
-            for line in lines:
-                if line.startswith("from "):
-                    script += scripts.get(line[5:], [])
-                elif line.startswith("> "):
-                    script.append(line[2:])
-            status = next((line[7:] for line in lines if line.startswith("status ")), None)
-            cases.append((script, [line[2:] for line in lines if line.startswith("< ")], status))
+        kind, _, name = head.partition(" ")
+        script, replies, status, is_plain = [], [], None, True
+        for line in lines:
+            key, _, rest = line.partition(" ")
+            if key == "from":
+                script += scripts.get(rest, [])
+            elif key == ">":
+                script.append(rest)
+            elif key == "<":
+                replies.append(rest)
+            elif key == "status":
+                status = rest
+            else:
+                is_plain = False
+        if kind == "script":
+            scripts[name] = script
+        elif kind == "case" and is_plain:
+            cases.append((script, replies, status))
     return cases
 
 
@@ -90,9 +102,11 @@ def main(words):
     all_sessions, faults = sessions(), []
     for it in all_sessions:
         faults += [f"a reply is missing, or stands where none can be: {fault}" for fault in it.faults()]
-    if words[:1] == ["--cases"]:
-        for it in all_sessions:
-            print("\n".join([f"case {it.name()}", *(f"> {line}" for line in it.script()), *(f"< {line}" for line in it.replies()), f"status {it.status()}", ""]))
+    if words[:1] == ["--add"]:
+        for path in (CASES, os.path.join(os.path.dirname(CASES), "stdout")):
+            others = open(path, encoding="utf-8").read().partition(HEADING)[0].rstrip("\n")
+            with open(path, "w", encoding="utf-8") as file:
+                file.write("\n\n".join([f"{others}\n", HEADING, *(it.case().rstrip("\n") for it in all_sessions)]) + "\n")
     elif words[:1] == ["--scripts"]:
         for it in all_sessions:
             name = re.sub(r"\W+", "_", it.name())
@@ -114,8 +128,7 @@ def main(words):
                 faults.append(f"{it.name()}: no case of crates/test_transcripts has these lines and replies")
     for it in faults:
         print(it, file=sys.stderr)
-    if words[:1] != ["--cases"]:
-        print(f"{len(all_sessions)} sessions, {len(faults)} faults")
+    print(f"{len(all_sessions)} sessions, {len(faults)} faults")
     return 1 if faults else 0
 
 

@@ -46,9 +46,12 @@ def clauses_of(repository, crate, call):
 def words_of(repository, crate, title, path):
     """The calls or types of this name in the file, and the words that a row may give as their clauses."""
     found, words, unnamed = False, set(), False
+    public = {id(it) for it in repository.public_calls(crate)} if crate in repository.below else set()
     for source in repository.sources.get(crate, []):
         for call in source.calls:
-            if call.title() == title and source.path == path:
+            # (a program has no public calls: those of its main file are told)
+            is_told = id(call) in public or path.endswith("main.rt")
+            if call.title() == title and source.path == path and is_told:
                 found = True
                 clauses = clauses_of(repository, crate, call)
                 unnamed = unnamed or (len(clauses) == 1 and not clauses[0][1])
