@@ -27,7 +27,8 @@ def prose(text):
 
 
 def anchors(text):
-    return {re.sub(r"[^\w\- ]", "", re.sub(r"\[([^\]]*)\]\([^)]*\)", r"\1", line.lstrip("#").strip()).lower()).replace(" ", "-") for line in prose(text).splitlines() if line.startswith("#")}
+    """The headings of a page, and the places with a name of their own."""
+    return {*re.findall(r'<a id="([^"]+)"></a>', text)} | {re.sub(r"[^\w\- ]", "", re.sub(r"\[([^\]]*)\]\([^)]*\)", r"\1", line.lstrip("#").strip()).lower()).replace(" ", "-") for line in prose(text).splitlines() if line.startswith("#")}
 
 
 def target(page, link):
