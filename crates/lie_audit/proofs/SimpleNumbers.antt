@@ -1,9 +1,8 @@
 -- The numbers of the simple roots.
-use Rattle.std.proofs.Common.{◌≡◌, ℕ, ◌-◌, ◌+◌, ◌<◌, pos, negsuc, [], length, ap, ◌∙◌, arith, is_some, cond}
-use Rattle.std.specs.Option.{unwrap_or}
+use Rattle.std.proofs.Common.{◌≡◌, ℕ, ◌-◌, ◌+◌, ◌<◌, pos, negsuc, length, ap, ◌∙◌, arith, is_some, cond}
 use Rattle.std.proofs.lemmas.Bool.{lt-ltb}
-use Rattle.lie_datum.specs.RootDatum.{simple, IsSimpleIndex}
-use Rattle.lie_datum.specs.RootList.{RootDatum, IsNumber, root_of}
+use Rattle.lie_datum.specs.RootDatum.{IsSimpleIndex}
+use Rattle.lie_datum.specs.RootList.{RootDatum, IsNumber}
 use Rattle.lie_datum.specs.Laws.{SimplesFirst}
 use Rattle.lie_datum.specs.Numbers.{number_at}
 use Rattle.lie_datum.proofs.NumberLemmas.{place_within}
@@ -11,9 +10,6 @@ use Rattle.lie_datum.proofs.NumberLemmas.{place_within}
 module _ (d : RootDatum) (law : SimplesFirst d) where
   pub simple_number : (i : ℕ) → IsSimpleIndex d.base i → IsNumber d (pos i)
   simple_number i h = ap is_some (law i h)
-
-  pub simple_root_of : (i : ℕ) → IsSimpleIndex d.base i → root_of d (pos i) ≡ simple i
-  simple_root_of i h = ap (λ o. unwrap_or o (record { coeffs = []; co_coeffs = [] })) (law i h)
 
   pub simple_at : (i : ℕ) → IsSimpleIndex d.base i → number_at (length d.positive) (i - 1) ≡ pos i
   simple_at i h =

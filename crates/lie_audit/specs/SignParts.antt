@@ -1,5 +1,5 @@
 -- How the signs are computed and tested.
-use Rattle.std.specs.Prelude.{◌≡◌, ◌⊎◌, ℕ, ◌+◌, ◌-◌, ◌*◌, ◌<◌, ◌≤◌, ℤ, pos, negsuc, neg_ℤ, ◌*ℤ◌, ◌<ℤ◌, unsigned_abs, Bool, true, false, List, length, slice_index_or}
+use Rattle.std.specs.Prelude.{◌≡◌, ◌⊎◌, ℕ, ◌+◌, ◌-◌, ◌*◌, ◌^◌, ◌<◌, ◌≤◌, ℤ, pos, negsuc, neg_ℤ, ◌*ℤ◌, ◌<ℤ◌, unsigned_abs, Bool, true, false, List, length, slice_index_or}
 use Rattle.std.specs.List.{All}
 use Rattle.lie_ring.specs.Rings.{sum_below}
 use Rattle.lie_ring.specs.Integers.{integers}
@@ -35,6 +35,11 @@ row_value v r t row xs = sum_below integers (dimension v) (λ j. root_element_en
 -- (j, r) comes before the place h of i
 abbrev pub ComesBefore : RootDatum → ℕ → ℕ → ℕ → ℤ → Type 0
 ComesBefore d i h j r = (j < i) ⊎ ((j ≡ i) × (place (length d.positive) r < h))
+
+-- no entry of N_i that is computed is above this: it is a sum of at most 248 products of an entry of a root element, at most
+-- 601, and an entry of a product of two of them, at most 10^8
+abbrev pub entry_bound : ℕ
+entry_bound = 248 * 601 * 10 ^ 8
 
 -- the list has the signs before the place h of i, and all of them are as they should be
 pub record AreTested (d : RootDatum) (v : Module) (xs : List ℤ) (i h : ℕ) : Type 0 where

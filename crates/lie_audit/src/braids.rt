@@ -12,9 +12,20 @@ ghost use Rattle.lie_audit.specs.BraidParts.{HasBraidsFrom, IsFirstBadIn};
 use crate::entries::simple;
 use crate::faults::BraidFault;
 use lie_const::Signs;
-use lie_datum::{Datum, RootId, simples_first};
-use lie_weight::negated_pairing;
+use lie_datum::{Datum, RootId};
+use lie_orbit::pairing;
 use lie_weyl::orders_of_products;
+
+/// The Cartan integer c_ij, which is <a_i, a_j^>.
+fn cartan_integer(datum: &Datum, i: usize, j: usize) -> i128
+    requires left { IsSimpleIndex datum.now.base i }
+    requires right { IsSimpleIndex datum.now.base j }
+    ensures value { result ≡ cartan datum.now.base i j }
+    ensures bound { unsigned_abs result ≤ 80000 }
+{
+    datum.loaded();
+    pairing(datum.root(simple(datum, i)), datum.coroot(simple(datum, j)))
+}
 
 /// The product c_ij c_ji of two Cartan integers.
 fn cartan_product(datum: &Datum, i: usize, j: usize) -> i128
@@ -22,9 +33,7 @@ fn cartan_product(datum: &Datum, i: usize, j: usize) -> i128
     requires right { IsSimpleIndex datum.now.base j }
     ensures { result ≡ cartan datum.now.base i j *ℤ cartan datum.now.base j i }
 {
-    datum.loaded();
-    simples_first();
-    negated_pairing(datum, simple(datum, i), j) * negated_pairing(datum, simple(datum, j), i)
+    cartan_integer(datum, i, j) * cartan_integer(datum, j, i)
 }
 
 /// The order of s_i s_j.

@@ -9,7 +9,7 @@ ghost use Rattle.lie_const.specs.Modules.{dimension, top, divided_power, root_el
 ghost use Rattle.lie_const.specs.Adjoint.{adjoint_dimension};
 ghost use Rattle.lie_const.specs.Signs.{sign_entry};
 ghost use Rattle.lie_weight.specs.Laws.{HasSmallMatrices};
-ghost use Rattle.lie_audit.specs.SignParts.{unit, Lists, IsWithinList, row_value};
+ghost use Rattle.lie_audit.specs.SignParts.{unit, Lists, IsWithinList, row_value, entry_bound};
 
 use lie_datum::{Datum, RootId, simples_first};
 use lie_weight::{Module, place_in_basis};
@@ -127,7 +127,7 @@ fn row_product(
     requires within { IsWithinList 100000000 column.now }
     ensures value { result ≡ row_value adjoint.now r (unit minus) row column.now }
     ensures bound { IsWithinList 601 column.now → unsigned_abs result ≤ 100000000 }
-    ensures size { unsigned_abs result ≤ 14904800000000 }
+    ensures size { unsigned_abs result ≤ entry_bound }
 {
     let mut sum = 0;
     for j in 0..column.len() {
@@ -176,7 +176,7 @@ pub(crate) fn weyl_entry(
     requires small { HasSmallMatrices datum.now adjoint.now }
     requires dimension { dimension adjoint.now ≡ adjoint_dimension datum.now }
     ensures value { IfOk result (λ c. c ≡ sign_entry datum.now adjoint.now i s) }
-    ensures size { IfOk result (λ c. unsigned_abs c ≤ 14904800000000) }
+    ensures size { IfOk result (λ c. unsigned_abs c ≤ entry_bound) }
 {
     datum.loaded();
     let up = simple(datum, i);

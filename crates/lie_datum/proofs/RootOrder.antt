@@ -1,14 +1,16 @@
 -- The order of the roots, and of vectors.
-use Rattle.std.proofs.Common.{◌≡◌, ◌≢◌, ◌<ℤ◌, [], ◌∷◌, refl, ap}
+use Rattle.std.proofs.Common.{◌≡◌, ◌≢◌, ◌<ℤ◌, [], ◌∷◌, true, refl, ap}
+use Rattle.std.proofs.lemmas.Bool.{and_parts, and_from}
 use Rattle.std.proofs.lemmas.Cmp.{int_cmp_total, int_ranked, on_total, then_total, back_total, lists_total, tied_itself}
-use Rattle.std.specs.Cmp.{IsTotalOrder}
-use Rattle.std.specs.Ordering.{int_cmp, ordering_then, MatchOrdering}
+use Rattle.std.specs.Cmp.{IsTotalOrder, Equal-is}
+use Rattle.std.specs.Ordering.{int_cmp, is_eq, ordering_then, MatchOrdering}
 use Rattle.std.specs.Cmp.Lexicographic.{slice_cmp}
 use Rattle.std.specs.declared.cmp.Ordering.{Ordering}
 use Rattle.std.specs.declared.cmp.Ordering.TheVariants.{Less, Equal, Greater}
-use Rattle.lie_datum.specs.Vectors.{Vector}
-use Rattle.lie_datum.specs.RootDatum.{Root}
+use Rattle.lie_datum.specs.Vectors.{Vector, same_vector}
+use Rattle.lie_datum.specs.RootDatum.{Root, same_root}
 use Rattle.lie_datum.specs.RootList.{height, root_cmp}
+use Rattle.lie_datum.proofs.Roots.{same_root as same_pair}
 
 -- vectors and roots are in a total order
 pub slices_total : IsTotalOrder (slice_cmp int_cmp)
@@ -45,3 +47,18 @@ not_above u v w p q e = by (slice_cmp int_cmp u v) refl (slice_cmp int_cmp v w) 
     by Less f Equal g p q = let h = equal_slices v w g in let k = ap (slice_cmp int_cmp u) h in cc
     by Equal f Less g p q = let h = equal_slices u v f in let k = ap (λ t. slice_cmp int_cmp t w) h in cc
     by Equal f Equal g p q = let h = equal_slices u v f in let k = ap (λ t. slice_cmp int_cmp t w) h in cc
+
+-- vectors and roots that the tests find equal are, and each is found equal to itself
+pub same_vector-true : (x y : Vector) → same_vector x y ≡ true → x ≡ y
+same_vector-true x y e = equal_slices x y ((Equal-is (slice_cmp int_cmp x y)).0 e)
+
+pub same_vector-self : (x : Vector) → same_vector x x ≡ true
+same_vector-self x = ap is_eq (tied_itself slices_total x)
+
+pub same_root-true : (r s : Root) → same_root r s ≡ true → r ≡ s
+same_root-true r s e =
+    let p = and_parts (same_vector r.coeffs s.coeffs) (same_vector r.co_coeffs s.co_coeffs) e in
+    same_pair r s (same_vector-true r.coeffs s.coeffs p.0) (same_vector-true r.co_coeffs s.co_coeffs p.1)
+
+pub same_root-self : (r : Root) → same_root r r ≡ true
+same_root-self r = and_from (same_vector r.coeffs r.coeffs) (same_vector r.co_coeffs r.co_coeffs) (same_vector-self r.coeffs) (same_vector-self r.co_coeffs)

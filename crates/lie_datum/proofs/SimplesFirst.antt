@@ -1,8 +1,9 @@
 -- The simple roots are the positive roots of height 1, and stand first in the order.
-use Rattle.std.proofs.Common.{◌≡◌, ◌≢◌, ℕ, zero, suc, ◌+◌, ◌<◌, ◌≤◌, pos, negsuc, ◌+ℤ◌, ◌≤ℤ◌, ◌<ℤ◌, List, [], ◌∷◌, length, refl, sym, ap, subst, ◌∙◌, arith, Some, slice_get, ◌⊎◌, inl, inr, ⊎_elim}
+use Rattle.std.proofs.Common.{◌≡◌, ◌≢◌, ℕ, zero, suc, ◌+◌, ◌-◌, ◌<◌, ◌≤◌, pos, negsuc, cond, ◌+ℤ◌, ◌≤ℤ◌, ◌<ℤ◌, List, [], ◌∷◌, length, refl, sym, ap, subst, ◌∙◌, arith, Some, slice_get, ◌⊎◌, inl, inr, ⊎_elim}
 use Rattle.std.proofs.lemmas.Int.{ints, by_lt_z}
 use Rattle.std.proofs.lemmas.Cmp.{int_ranked}
 use Rattle.std.proofs.Math.IntN.{+ℤ_idl}
+use Rattle.std.specs.Option.{unwrap_or, IsSome}
 use Rattle.std.specs.List.{AllByRecursion}
 use Rattle.std.specs.List.Sorted.{IsStrictlySortedBy}
 use Rattle.std.specs.Ordering.{int_cmp, ordering_then, MatchOrdering}
@@ -11,8 +12,11 @@ use Rattle.std.specs.declared.cmp.Ordering.{Ordering}
 use Rattle.std.specs.declared.cmp.Ordering.TheVariants.{Less, Equal, Greater}
 use Rattle.lie_datum.specs.Vectors.{Vector, unit, total, entry}
 use Rattle.lie_datum.specs.RootDatum.{Root, IsRoot, is_simple, IsSimpleIndex, IsPositive, simple, rank}
-use Rattle.lie_datum.specs.RootList.{RootDatum, IsLoaded, root_cmp, height}
+use Rattle.lie_datum.specs.RootList.{RootDatum, IsLoaded, IsNumber, root_of, root_cmp, height}
 use Rattle.lie_datum.specs.Laws.{SimplesFirst}
+use Rattle.lie_datum.specs.Numbers.{number_at}
+use Rattle.std.proofs.lemmas.Bool.{lt-ltb}
+use Rattle.lie_datum.proofs.NumberLemmas.{place_within}
 use Rattle.lie_base.proofs.Members.{In, here, there}
 use Rattle.lie_datum.proofs.Entries.{within_or_past, entry-unit}
 use Rattle.lie_datum.proofs.Roots.{root_lengths}
@@ -168,3 +172,18 @@ module _ (d : RootDatum) (loaded : IsLoaded d) where
   simples_first_holds (suc i) h =
       simples_lead (rank d.base) 0 d.positive (let s = short d loaded in omega (arith, s)) loaded.listed.sorted simple_member members i (let l = h.1 in omega (arith, l))
       ∙ (let q : suc (0 + i) ≡ suc i = omega arith in ap (λ t. Some (simple t)) q)
+
+  -- the number i names the simple root a_i
+  pub simple_number : (i : ℕ) → IsSimpleIndex d.base i → IsNumber d (pos i) × (root_of d (pos i) ≡ simple i)
+  simple_number i h =
+      let e = simples_first_holds i h in
+      (subst IsSome (sym e) refl, ap (λ o. unwrap_or o (record { coeffs = []; co_coeffs = [] })) e)
+
+  -- which is the number at its place
+  pub simple_at : (i : ℕ) → IsSimpleIndex d.base i → number_at (length d.positive) (i - 1) ≡ pos i
+  simple_at i h =
+      let q = (place_within d (pos i) (simple_number i h).0).1 in
+      let a = h.0 in
+      let low : i - 1 < length d.positive = omega (arith, q, a) in
+      let one : i - 1 + 1 ≡ i = omega (arith, a) in
+      ap (λ t. cond t (pos (i - 1 + 1)) (negsuc (i - 1 - length d.positive))) (lt-ltb (i - 1) (length d.positive) low) ∙ ap pos one

@@ -16,12 +16,12 @@ use crate::base::Base;
 use crate::root_data::Entry;
 use crate::root_id::RootId;
 use crate::root_pair::Root;
-use crate::vectors::{Vector, entry_sum, pairing, plus};
+use crate::vectors::{Vector, entry_sum, plus, small_pairing};
 use indexmap::IndexMap;
 use std::alloc::{AllocError, Global};
 
 /// The coefficients of the roots over the simple roots.
-pub(crate) fn coefficients(alloc: Global, roots: &[Root]) -> Result<Vec<Vector>, AllocError>
+fn coefficients(alloc: Global, roots: &[Root]) -> Result<Vec<Vector>, AllocError>
     ensures { IfOk result (λ list. list.items ≡ map (λ r. r.coeffs) roots.now) }
 {
     let mut list = Vec::new(alloc);
@@ -79,7 +79,7 @@ fn square_sum(covectors: &[Vector], x: &Vector) -> i128
 {
     let mut sum = 0;
     for y in covectors {
-        let k = pairing(x, y);
+        let k = small_pairing(x, y);
         sum += k * k;
     }
     sum
@@ -136,8 +136,21 @@ pub(crate) fn numbers(
     Ok(names)
 }
 
+/// The root at the place of each vector of coefficients, by these.
+pub(crate) fn by_coefficients(
+    alloc: Global,
+    positive: usize,
+    roots: &[Root],
+) -> Result<IndexMap<Vector, RootId>, AllocError>
+    requires count { length roots.now ≤ 2 * positive }
+    requires bound { positive ≤ 120 }
+    ensures { IfOk result (λ names. (v : Vector) → IsIndexed positive (map (λ r. r.coeffs) roots.now) v (get (pointwise int_eq) names v)) }
+{
+    numbers(alloc, positive, &coefficients(alloc, roots)?)
+}
+
 /// The names of the sums of each two roots, row by row.
-pub(crate) fn sums(
+fn sums(
     alloc: Global,
     roots: &[Root],
     names: &IndexMap<Vector, RootId>,
@@ -155,7 +168,7 @@ pub(crate) fn sums(
 }
 
 /// The names of the images of the roots under s_1, then under s_2, and so on.
-pub(crate) fn images(
+fn images(
     alloc: Global,
     base: &Base,
     roots: &[Root],
@@ -176,4 +189,20 @@ pub(crate) fn images(
         }
     }
     Ok(list)
+}
+
+/// The names of the sums and of the images of the roots.
+pub(crate) fn sums_and_images(
+    alloc: Global,
+    base: &Base,
+    roots: &[Root],
+    names: &IndexMap<Vector, RootId>,
+) -> Result<(Vec<Option<RootId>>, Vec<RootId>), AllocError>
+    requires roots { All (λ r. IsRoot base.now r × IsSmall r) roots.now }
+    requires named { (r : Root) → IsRoot base.now r → IsSome (get (pointwise int_eq) names.now r.coeffs) }
+    ensures sums { IfOk result (λ lists. lists.0.items ≡ grid (λ r s. get (pointwise int_eq) names.now (plus r.coeffs s.coeffs)) roots.now roots.now) }
+    ensures images { IfOk result (λ lists. map Some lists.1.items ≡ grid (λ i r. get (pointwise int_eq) names.now (reflected base.now i r).coeffs) (range_with_len 1 (rank base.now)) roots.now) }
+{
+    let sums = sums(alloc, roots, names)?;
+    Ok((sums, images(alloc, base, roots, names)?))
 }

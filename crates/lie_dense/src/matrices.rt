@@ -135,8 +135,12 @@ fn fill_row(
 ) -> Result<(), AllocError>
     requires row { row < m.now.height }
     requires square { m.now.height ≡ m.now.width }
-    requires partly { matrix.old ≡ partial_table 0 m.now.height m.now.width (image_entry field.now.given m.now) row 0 }
-    ensures partly { OnOk result (matrix.new ≡ partial_table 0 m.now.height m.now.width (image_entry field.now.given m.now) row m.now.width) }
+    requires partly { let f = field.now.given in
+        matrix.old ≡ partial_table 0 m.now.height m.now.width (image_entry f m.now) row 0 }
+    ensures partly { let f = field.now.given in
+        let width = m.now.width in
+        OnOk result (
+        matrix.new ≡ partial_table 0 m.now.height width (image_entry f m.now) row width) }
 {
     for col in 0..m.cols() {
         if let Some(n) = m.get(row, col) {

@@ -1,10 +1,10 @@
 //! Rows of a product, on the arrays in which matrices are kept.
 
-ghost use Rattle.std.specs.Prelude.{◌≡◌, ℕ, ◌+◌, ◌*◌, ◌<◌, ◌≤◌, length, slice_index_or};
-ghost use Rattle.lie_ring.specs.Rings.{sum_below};
+ghost use Rattle.std.specs.Prelude.{◌≡◌, ℕ, ◌*◌, ◌<◌, ◌≤◌, length, slice_index_or};
 ghost use Rattle.lie_ring.specs.Matrices.{EachElem};
-ghost use Rattle.lie_field.specs.Quotient.{order, add, mul};
+ghost use Rattle.lie_field.specs.Quotient.{order};
 ghost use Rattle.lie_field.specs.FieldRing.{field_ring};
+ghost use Rattle.lie_dense.specs.Flat.{place, IsRowSum, row_product, matrix_product};
 ghost use Rattle.lie_dense.specs.Steps.{AreSteps};
 
 use crate::steps::add_by_steps;
@@ -17,7 +17,7 @@ fn add_row_multiple(field: &Field, steps: &[Fe], row: &mut [Fe], a: Fe, other: &
     requires row_elem { EachElem (field_ring field.now) row.old }
     requires other_elem { EachElem (field_ring field.now) other.now }
     requires lengths { length row.old ≡ length other.now }
-    ensures sums { (j : ℕ) → j < length row.old → slice_index_or row.new j 0 ≡ add field.now.given (slice_index_or row.old j 0) (mul field.now.given a (slice_index_or other.now j 0)) }
+    ensures sums { IsRowSum field.now.given row.new row.old a other.now }
     ensures row_elem { EachElem (field_ring field.now) row.new }
 {
     if a == Fe::zero() {
@@ -36,7 +36,7 @@ fn add_multiple(field: &Field, row: &mut [Fe], a: Fe, other: &[Fe])
     requires row_elem { EachElem (field_ring field.now) row.old }
     requires other_elem { EachElem (field_ring field.now) other.now }
     requires lengths { length row.old ≡ length other.now }
-    ensures sums { (j : ℕ) → j < length row.old → slice_index_or row.new j 0 ≡ add field.now.given (slice_index_or row.old j 0) (mul field.now.given a (slice_index_or other.now j 0)) }
+    ensures sums { IsRowSum field.now.given row.new row.old a other.now }
     ensures row_elem { EachElem (field_ring field.now) row.new }
 {
     for j in 0..row.len() {
@@ -55,7 +55,8 @@ fn multiply_row(field: &Field, steps: &[Fe], answer: &mut [Fe], row: &[Fe], b: &
     requires few { n ≤ 1024 }
     requires b_length { length b.now ≡ n * n }
     requires zeros { (j : ℕ) → j < n → slice_index_or answer.old j 0 ≡ 0 }
-    ensures products { (j : ℕ) → j < n → slice_index_or answer.new j 0 ≡ sum_below (field_ring field.now) n (λ k. mul field.now.given (slice_index_or row.now k 0) (slice_index_or b.now (k * n + j) 0)) }
+    ensures products { (j : ℕ) → j < n →
+        slice_index_or answer.new j 0 ≡ row_product field.now n row.now b.now j }
     ensures answer_elem { EachElem (field_ring field.now) answer.new }
 {
     for k in 0..n {
@@ -81,7 +82,8 @@ pub(crate) fn multiply_rows(
     requires b_length { length b.now ≡ n * n }
     requires answer_length { length answer.old ≡ n * n }
     requires zeros { (x : ℕ) → x < n * n → slice_index_or answer.old x 0 ≡ 0 }
-    ensures products { (i j : ℕ) → i < n → j < n → slice_index_or answer.new (i * n + j) 0 ≡ sum_below (field_ring field.now) n (λ k. mul field.now.given (slice_index_or a.now (i * n + k) 0) (slice_index_or b.now (k * n + j) 0)) }
+    ensures products { (i j : ℕ) → i < n → j < n →
+        place n answer.new i j ≡ matrix_product field.now n a.now b.now i j }
     ensures answer_elem { EachElem (field_ring field.now) answer.new }
 {
     for i in 0..n {

@@ -1,9 +1,10 @@
 //! A table of sums over a small field, so that a row of a product takes look-ups alone.
 
-ghost use Rattle.std.specs.Prelude.{◌≡◌, ℕ, ◌<◌, ◌≤◌, IfOk, length, slice_index_or};
+ghost use Rattle.std.specs.Prelude.{◌≡◌, ◌<◌, ◌≤◌, IfOk, length};
 ghost use Rattle.lie_ring.specs.Matrices.{EachElem};
 ghost use Rattle.lie_field.specs.Quotient.{order, add, mul};
 ghost use Rattle.lie_field.specs.FieldRing.{field_ring};
+ghost use Rattle.lie_dense.specs.Flat.{IsRowSum};
 ghost use Rattle.lie_dense.specs.Steps.{AreSteps, HasSteps};
 
 use lie_field::{Fe, Field};
@@ -59,7 +60,7 @@ pub(crate) fn add_by_steps(field: &Field, steps: &[Fe], row: &mut [Fe], a: Fe, o
     requires row_elem { EachElem (field_ring field.now) row.old }
     requires other_elem { EachElem (field_ring field.now) other.now }
     requires lengths { length row.old ≡ length other.now }
-    ensures sums { (j : ℕ) → j < length row.old → slice_index_or row.new j 0 ≡ add field.now.given (slice_index_or row.old j 0) (mul field.now.given a (slice_index_or other.now j 0)) }
+    ensures sums { IsRowSum field.now.given row.new row.old a other.now }
     ensures row_elem { EachElem (field_ring field.now) row.new }
 {
     for j in 0..row.len() {

@@ -6,4 +6,5 @@ pub mod Laws
 pub mod Scalars
 pub mod Reach
 pub mod Powers
+pub mod IntegerPowers
 pub mod FieldTest

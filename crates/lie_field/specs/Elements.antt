@@ -1,10 +1,11 @@
 -- The elements of a field as a type, those that are not 0 (units), and their powers by whole numbers.
 -- Own: the operations are total, and each law holds at every value, so no law has a premise `a < q`.
 use Rattle.std.proofs.Common.{◌≡◌, ℕ, zero, suc, ◌<◌, eqb, Bool, true, false, not, T, refl, sym, ap, ap₂, ◌∙◌, subst, arith}
-use Rattle.std.specs.Prelude.{ℤ, pos, negsuc, neg_ℤ, ◌≢◌, ◌⊎◌}
+use Rattle.std.specs.Prelude.{ℤ, pos, negsuc, neg_ℤ, ◌+ℤ◌, ◌*ℤ◌, ◌≢◌, ◌⊎◌}
 use Rattle.std.proofs.Common.{inl, inr}
 use mathlib.Core.Logic.{⊎_elim}
 use Rattle.std.proofs.lemmas.Bool.{ltb-true, cases_eq}
+use Rattle.std.proofs.lemmas.Int.{ints}
 use Rattle.std.proofs.Math.Facts.{eqb_no, no_eqb}
 use lib.Dec.{T_prop}
 use mathlib.Core.HLevel.{Σ_prop_path}
@@ -15,6 +16,11 @@ use Rattle.lie_field.specs.Algebra.FieldTest.{is_lawful}
 use Rattle.lie_field.specs.FieldRing.{field_is_ring}
 use Rattle.lie_field.specs.Algebra.Laws
 use Rattle.lie_field.specs.Algebra.Powers
+use Rattle.lie_field.specs.Algebra.IntegerPowers.{power_int-add}
+use Rattle.lie_field.specs.Units.{IsUnit}
+use Rattle.lie_ring.specs.IntegerLaws.{integers_commutative}
+use Rattle.lie_ring.specs.Integers.{integers}
+use Rattle.lie_ring.specs.RingLemmas.{mul_zero, mul_neg}
 
 -- an element
 abbrev pub Elem : FiniteField → Type 0
@@ -213,6 +219,19 @@ module _ (f : FiniteField) where
   unfolding unit_inv elem_inv
   unit_inv-element a = refl
 
+  -- and their numbers are those of the operations on numbers
+  pub unit_mul-number : (a b : NonZero f) → (unit_mul a b).element.number ≡ mul f.given a.element.number b.element.number
+  unfolding unit_mul
+  unit_mul-number a b = refl
+
+  pub unit_inv-number : (a : NonZero f) → (unit_inv a).element.number ≡ inv f.given a.element.number
+  unfolding unit_inv
+  unit_inv-number a = refl
+
+  pub unit_one-number : unit_one.element.number ≡ 1
+  unfolding unit_one
+  unit_one-number = refl
+
   pub unit_assoc : (a b c : NonZero f) → unit_mul (unit_mul a b) c ≡ unit_mul a (unit_mul b c)
   unfolding unit_mul
   unit_assoc a b c = same_unit (Laws.mul_assoc f.given (is_lawful f).ring a.element.number b.element.number c.element.number)
@@ -322,6 +341,62 @@ module _ (f : FiniteField) where
   unfolding unit_power_int power_int unit_inv
   power-number a (pos n) = unit_power-number a n
   power-number a (negsuc n) = unit_power-number (unit_inv a) (suc n)
+
+  -- a^0 = 1
+  pub power_zero : (a : NonZero f) → unit_power_int a (pos 0) ≡ unit_one
+  unfolding unit_power_int unit_power
+  power_zero a = refl
+
+  -- a^1 = a
+  pub power_first : (a : NonZero f) → unit_power_int a (pos 1) ≡ a
+  unfolding unit_power_int unit_power
+  power_first a = unit_comm unit_one a ∙ unit_mul_one a
+
+  -- a^(m + n) = a^m a^n
+  pub power_add : (a : NonZero f) (m n : ℤ) → unit_power_int a (m +ℤ n) ≡ unit_mul (unit_power_int a m) (unit_power_int a n)
+  power_add a m n = same_unit
+      (power-number a (m +ℤ n)
+      ∙ power_int-add f.given (is_lawful f) a.element.number (positive_number a) (is_below (order f.given) a.element) m n
+      ∙ sym (unit_mul-number (unit_power_int a m) (unit_power_int a n) ∙ ap₂ (mul f.given) (power-number a m) (power-number a n)))
+
+  -- m n + m = m (n + 1)
+  one_more : (m : ℤ) (n : ℕ) → (m *ℤ pos n) +ℤ m ≡ m *ℤ pos (suc n)
+  one_more m n =
+      let e : pos n +ℤ pos 1 ≡ pos (suc n) = omega (arith, ints) in
+      ap (λ x. (m *ℤ pos n) +ℤ x) (sym (integers_commutative.mul_one m refl)) ∙ sym (integers_commutative.mul_add m (pos n) (pos 1) refl refl refl) ∙ ap (λ x. m *ℤ x) e
+
+  -- a^(m n) = (a^m)^n, where n is a natural number
+  natural_power : (a : NonZero f) (m : ℤ) (n : ℕ) → unit_power_int a (m *ℤ pos n) ≡ unit_power_int (unit_power_int a m) (pos n)
+  natural_power a m zero = ap (unit_power_int a) (mul_zero integers integers_commutative m refl) ∙ power_zero a ∙ sym (power_zero (unit_power_int a m))
+  natural_power a m (suc n) =
+      let e : pos n +ℤ pos 1 ≡ pos (suc n) = omega (arith, ints) in
+      ap (unit_power_int a) (sym (one_more m n))
+      ∙ power_add a (m *ℤ pos n) m
+      ∙ ap₂ unit_mul (natural_power a m n) (sym (power_first (unit_power_int a m)))
+      ∙ sym (power_add (unit_power_int a m) (pos n) (pos 1))
+      ∙ ap (unit_power_int (unit_power_int a m)) e
+
+  -- a^(m n) = (a^m)^n
+  pub power_power : (a : NonZero f) (m n : ℤ) → unit_power_int a (m *ℤ n) ≡ unit_power_int (unit_power_int a m) n
+  power_power a m (pos n) = natural_power a m n
+  power_power a m (negsuc n) =
+      ap (unit_power_int a) (mul_neg integers integers_commutative m (pos (suc n)) refl refl)
+      ∙ power_neg a (m *ℤ pos (suc n))
+      ∙ ap unit_inv (natural_power a m (suc n))
+      ∙ sym (power_neg (unit_power_int a m) (pos (suc n)))
+
+  -- ---- units by their numbers
+  -- a positive number is not 0
+  pub positive_apart : (a : ℕ) → 0 < a → a ≢ 0
+  positive_apart a above = omega (arith, above)
+
+  -- the unit with a given number
+  abbrev pub unit_at : (a : ℕ) → IsUnit f a → NonZero f
+  unit_at a h = record { element = at_number (order f.given) a h.1; nonzero = no_eqb (positive_apart a h.0) }
+
+  -- the number of an element that is not 0 is that of a unit
+  pub IsUnit-number : (a : NonZero f) → IsUnit f a.element.number
+  IsUnit-number a = (positive_number a, is_below (order f.given) a.element)
 
   -- ---- the element itself, where it is not 0, else one
   unfoldable pub nonzero_by : (a : Elem f) (b : Bool) → not (eqb a.number 0) ≡ b → NonZero f

@@ -1,4 +1,5 @@
 -- A finite field as a ring on the numbers below its order: a roomy one, in which sizes and degrees are 0.
+-- The degree is that of a ring's element; `degree` of `Quotient.antt` is the degree of the field over the integers modulo p.
 use Rattle.std.proofs.Common.{◌≡◌, ℕ, ltb, true, refl, arith}
 use Rattle.std.specs.Prelude.{ℤ, pos, negsuc}
 use Rattle.std.proofs.lemmas.Bool.{ltb-true, lt-ltb}

@@ -178,7 +178,7 @@ impl Field {
     }
 
     /// The image of an integer.
-    pub(crate) fn integer(&self, n: i128) -> Fe
+    pub fn integer(&self, n: i128) -> Fe
         ensures value { result ≡ of_int self.now.given n }
         ensures below { result < order self.now.given }
     {

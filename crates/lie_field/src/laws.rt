@@ -1,6 +1,7 @@
 //! Laws of finite fields: functions without parameters, each of which publishes its clause.
 
 ghost use Rattle.lie_field.specs.FieldLaws.{FieldsAreFields, GeneratorsGenerate, ElementsAreQuotient, FaultsExclude, FieldsHaveNoFault, TestIsExact};
+ghost use Rattle.lie_field.specs.Units.{UnitsHavePowers};
 
 /// Every finite field is a field.
 pub fn fields_are_fields()
@@ -10,6 +11,12 @@ pub fn fields_are_fields()
 /// The powers `g^0 .. g^(q-2)` are all elements but 0, each once.
 pub fn generators_generate()
     ensures { GeneratorsGenerate }
+{}
+
+/// The powers of units by integers: of 1, of a product, and with a sum, a product or a negative as
+/// exponent.
+pub fn units_have_powers()
+    ensures { UnitsHavePowers }
 {}
 
 /// The elements are the polynomials modulo p and f: sums are carried to sums and products to

@@ -4,7 +4,8 @@
 //! order and their sizes; `specs/Audit.antt` says what an audited module is, over the Laurent polynomials, and which
 //! fault comes first where one is not. The faults exclude one another and success (`one_audit_answer`), and the
 //! modules of `lie_weight` have weights that are small enough (`adjoint_is_light`, `orbit_is_light`). The call itself
-//! is not here yet. The crate stands on `lie_weight`, `lie_poly`, `lie_const`, `lie_ring`, `lie_datum` and `thiserror`.
+//! is not here yet. The crate stands on `lie_weight`, `lie_orbit`, `lie_poly`, `lie_const`, `lie_mat`, `lie_ring`,
+//! `lie_datum` and `thiserror`.
 #![tactic(auto)]
 
 mod faults;

@@ -16,8 +16,7 @@ use Rattle.lie_letters.specs.Names.{RootName, signed_number}
 use Rattle.lie_letters.specs.Frames.{FrameData, setting, terms_at, IsLawfulFrame}
 use Rattle.lie_letters.specs.Letters.{X}
 use Rattle.lie_letters.specs.Relations.{S2, term_letters}
-use Rattle.lie_letters.specs.RingLetters.{RingLetter, IsRingWord}
-use Rattle.lie_letters.specs.RingLetters.{term_letters as ring_terms}
+use Rattle.lie_letters.specs.RingLetters.{RingLetter, IsRingWord, term_word}
 use Rattle.lie_letters.specs.RingRelations.{RingRelation, RingJoined}
 use Rattle.lie_letters.specs.RingRelations.{S0-root as S0-ring, S1 as S1-ring, S2 as S2-ring}
 use Rattle.lie_letters.specs.PositiveTerms.{positive_term, positive_terms}
@@ -54,7 +53,7 @@ module _ (f : FrameData) (lawful : IsLawfulFrame f) where
   -- S2 for two positive roots
   pub commutator_joined : (r s t u : ℕ) → 1 ≤ r → r < s → s ≤ length f.datum.positive → t < order f.field.given → u < order f.field.given
       → JoinedSpelled f (CodeX (pos s) u ∷ CodeX (pos r) t ∷ [])
-      (CodeX (pos r) t ∷ CodeX (pos s) u ∷ root_letters (ring_terms (field_ring f.field) (positive_terms f.constants r s) t u))
+      (CodeX (pos r) t ∷ CodeX (pos s) u ∷ root_letters (term_word (field_ring f.field) (positive_terms f.constants r s) t u))
   commutator_joined r s t u low before high p q =
       let x = name_of_number f.datum (pos r) (number_within f r low (omega (arith, before, high))) in
       let y = name_of_number f.datum (pos s) (number_within f s (omega (arith, low, before)) high) in
@@ -73,7 +72,7 @@ module _ (f : FrameData) (lawful : IsLawfulFrame f) where
         left_spelled = ap₂ (λ i j. CodeX j u ∷ CodeX i t ∷ []) x.1 y.1;
         right_spelled =
             ap (λ w. CodeX (signed_number f.datum x.0) t ∷ CodeX (signed_number f.datum y.0) u ∷ w) (terms_spelled f lawful x.0 y.0 positive_x positive_y apart a b)
-            ∙ ap₂ (λ i j. CodeX i t ∷ CodeX j u ∷ root_letters (ring_terms (field_ring f.field) (map positive_term (terms_of f.constants i j)) t u)) x.1 y.1;
+            ∙ ap₂ (λ i j. CodeX i t ∷ CodeX j u ∷ root_letters (term_word (field_ring f.field) (map positive_term (terms_of f.constants i j)) t u)) x.1 y.1;
         joined = by_relation _ _ (S2 x.0 y.0 a b ordered (laws.apart x.0 y.0 positive_x positive_y));
       }
 

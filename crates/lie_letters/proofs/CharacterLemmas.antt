@@ -1,4 +1,4 @@
--- RootDatum at torus vectors and coroots at units: their laws, and the numbers of their entries.
+-- Roots at torus vectors and coroots at units: their laws, and the numbers of their entries.
 use Rattle.std.proofs.Common.{◌≡◌, ℕ, zero, suc, ◌≤◌, ◌<◌, List, [], ◌∷◌, map, length, get_or, drop, replicate, refl, sym, ap, ap₂, ◌∙◌, subst, arith}
 use Rattle.std.proofs.lemmas.Int.{ints}
 use Rattle.std.proofs.Math.Facts.{eqb_yes}

@@ -15,7 +15,7 @@ use Rattle.lie_const.specs.ConstantTables.{terms_of}
 use Rattle.lie_letters.specs.Names.{RootName, signed_number, numbered_name, is_negative_name}
 use Rattle.lie_letters.specs.Frames.{FrameData, setting, term_of, terms_at, IsLawfulFrame}
 use Rattle.lie_letters.specs.Relations.{term_letters, power}
-use Rattle.lie_letters.specs.RingLetters.{power as ring_power, term_letters as ring_terms}
+use Rattle.lie_letters.specs.RingLetters.{power as ring_power, term_word}
 use Rattle.lie_letters.specs.PositiveTerms.{positive_term}
 use Rattle.lie_letters.specs.Spelled.{spelled, root_letters}
 use Rattle.lie_letters.specs.declared.letter.Letter.TheVariants.{X as CodeX}
@@ -116,12 +116,12 @@ module _ (f : FrameData) (lawful : IsLawfulFrame f) where
   -- the letters of the terms of two positive roots are those over the field's ring
   pub terms_spelled : (r s : RootName d) → is_negative_name d r ≡ false → is_negative_name d s ≡ false → ¬ (r ≡ s) → (t u : Elem f.field)
       → map (spelled f) (term_letters (setting f) (terms_at f r s) t u)
-      ≡ root_letters (ring_terms (field_ring f.field) (map positive_term (terms_of f.constants (signed_number d r) (signed_number d s))) t.number u.number)
+      ≡ root_letters (term_word (field_ring f.field) (map positive_term (terms_of f.constants (signed_number d r) (signed_number d s))) t.number u.number)
   unfolding terms_at term_of
   terms_spelled r s p q apart t u = walk (terms_of f.constants (signed_number d r) (signed_number d s)) (later_terms_of r s p q apart)
     where
       walk : (cs : List ConstantTerm) → AllByRecursion (IsLaterTerm d (signed_number d r) (signed_number d s)) cs
-          → map (spelled f) (term_letters (setting f) (map (term_of f r) cs) t u) ≡ root_letters (ring_terms (field_ring f.field) (map positive_term cs) t.number u.number)
+          → map (spelled f) (term_letters (setting f) (map (term_of f r) cs) t u) ≡ root_letters (term_word (field_ring f.field) (map positive_term cs) t.number u.number)
       walk [] h = refl
       walk (c ∷ cs) h =
           ap₂ ◌∷◌

@@ -1,5 +1,5 @@
 -- Lawful frames: A_1 over the field of two and A_2 over the field of three, with their laws, and what their names and relations compute.
-use Rattle.std.proofs.Common.{◌≡◌, ℕ, false, T, List, [], ◌∷◌, map, Ok, refl, lit<, arith}
+use Rattle.std.proofs.Common.{◌≡◌, ℕ, false, T, List, [], ◌∷◌, map, Ok, refl, ap, lit<, arith}
 use Rattle.std.specs.Prelude.{ℤ, pos, negsuc}
 use Rattle.std.proofs.Common.{replicate}
 use Rattle.lie_datum.specs.declared.root_pair.Root.{Root}
@@ -11,22 +11,26 @@ use Rattle.lie_field.specs.Polynomials.{residues}
 use Rattle.lie_field.specs.Quotient.{field_data, degree, order, leading, shift, element, mul, neg, power, of_int}
 use Rattle.lie_field.specs.FiniteField.{FiniteField, is_field, is_ring_data, is_new}
 use Rattle.lie_letters.specs.declared.letter.Letter.TheVariants.{X}
-use Rattle.lie_letters.specs.Names.{opposite_name, reflect_name, is_negative_name, positive_names}
-use Rattle.lie_letters.specs.Frames.{FrameData, setting, IsLawfulFrame}
+use Rattle.lie_field.specs.Elements.{one_elem, elem_neg, elem_mul, elem_int}
+use Rattle.lie_letters.specs.Names.{opposite_name, reflect_name, is_negative_name, positive_names, signed_number, numbered_name}
+use Rattle.lie_letters.specs.Frames.{FrameData, setting, IsLawfulFrame, terms_at, term_of}
+use Rattle.lie_letters.specs.Letters.{X as RootLetter}
+use Rattle.lie_letters.specs.Relations.{S2, term_letters}
 use Rattle.lie_letters.specs.Laws.{Laws}
 use Rattle.lie_letters.specs.RootSystems.{RootLaws, PositiveLaws, root_system}
 use Rattle.lie_letters.specs.Collecting.{CollectLaws}
 use Rattle.lie_letters.specs.Spelled.{JoinedSpelled}
+use Rattle.lie_letters.proofs.ChainLemmas.{by_relation}
 use Rattle.lie_letters.proofs.SettingLaws.{frame_laws}
 use Rattle.lie_letters.proofs.RootSystemLemmas.{root_laws}
 use Rattle.lie_letters.proofs.PositiveRootLemmas.{positive_laws}
 use Rattle.lie_letters.proofs.CollectingLemmas.{collect_laws}
 use Rattle.lie_letters.proofs.BridgeLemmas.{commutator_joined}
-use Rattle.lie_letters.proofs.LoadedTest.{loaded_from}
-use Rattle.lie_letters.proofs.TableTest.{constants_test, constants_from}
+use Rattle.lie_datum.proofs.LoadedTest.{loaded_from}
+use Rattle.lie_const.proofs.TableTest.{constants_test, constants_from}
 
 -- x and y, and six zeros
-abbrev pair : ℤ → ℤ → Vector
+abbrev pub pair : ℤ → ℤ → Vector
 pair x y = x ∷ (y ∷ replicate 6 (pos 0))
 
 abbrev root : Vector → Vector → Root
@@ -64,10 +68,10 @@ a1_table = record { positive = 1; values = replicate 4 (pos 0); terms = replicat
 pub a1_constants : LoadsConstants a1 (Ok a1_table)
 a1_constants = constants_from a1 a1_table a1_loaded refl
 
-abbrev a1_over_two : FrameData
+abbrev pub a1_over_two : FrameData
 a1_over_two = record { field = two; datum = a1; constants = a1_table }
 
-a1_lawful : IsLawfulFrame a1_over_two
+pub a1_lawful : IsLawfulFrame a1_over_two
 a1_lawful = record { loaded = a1_loaded; constants = a1_constants }
 
 a1_laws : Laws (setting a1_over_two) × RootLaws (root_system a1) × PositiveLaws (root_system a1) (opposite_name a1) (is_negative_name a1) (positive_names a1) × CollectLaws (setting a1_over_two)
@@ -121,10 +125,10 @@ a2_wrong = record { positive = 3; values = pos 0 ∷ negsuc 0 ∷ a2_values; ter
 a2_wrong_refused : constants_test a2 a2_wrong ≡ false
 a2_wrong_refused = refl
 
-abbrev a2_over_three : FrameData
+abbrev pub a2_over_three : FrameData
 a2_over_three = record { field = three; datum = a2; constants = a2_table }
 
-a2_lawful : IsLawfulFrame a2_over_three
+pub a2_lawful : IsLawfulFrame a2_over_three
 a2_lawful = record { loaded = a2_loaded; constants = a2_constants }
 
 a2_laws : Laws (setting a2_over_three) × RootLaws (root_system a2) × PositiveLaws (root_system a2) (opposite_name a2) (is_negative_name a2) (positive_names a2) × CollectLaws (setting a2_over_three)
@@ -150,8 +154,23 @@ a2_commutes : JoinedSpelled a2_over_three (X (pos 2) 1 ∷ X (pos 1) 1 ∷ []) (
 unfolding three of_int neg mul element residues shift leading degree order
 a2_commutes = commutator_joined a2_over_three a2_lawful 1 2 1 1 (omega arith) (omega arith) (omega arith) (lit< tt) (lit< tt)
 
+-- at a negative root too: x_(-3)(1) x_1(1) is joined to x_1(1) x_(-3)(1) x_(-2)(1), since the constant is -1
+a2_commutes_below : JoinedSpelled a2_over_three (X (negsuc 2) 1 ∷ X (pos 1) 1 ∷ []) (X (pos 1) 1 ∷ X (negsuc 2) 1 ∷ X (negsuc 1) 1 ∷ [])
+unfolding three signed_number terms_at term_of numbered_name opposite_name one_elem elem_neg elem_mul elem_int of_int neg mul element residues shift leading degree order
+a2_commutes_below =
+    let S = setting a2_over_three in
+    let r : S.Root = record { number = 0; below = tt } in
+    let s : S.Root = record { number = 5; below = tt } in
+    record {
+      left = RootLetter s S.one ∷ (RootLetter r S.one ∷ []);
+      right = RootLetter r S.one ∷ (RootLetter s S.one ∷ term_letters S (S.terms r s) S.one S.one);
+      left_spelled = refl;
+      right_spelled = refl;
+      joined = by_relation _ _ (S2 r s S.one S.one (lit< tt) (λ e. (let n : ◌≡◌ {A = ℕ} 5 3 = ap (λ x. x.number) e in omega (arith, n))));
+    }
+
 -- B_2, simply connected, with c_12 = -2 and c_21 = -1: the second simple root is short
-abbrev b2 : RootDatum
+abbrev pub b2 : RootDatum
 b2 = record {
   base = record { dim = 2; roots = pair (pos 2) (negsuc 1) ∷ (pair (negsuc 0) (pos 2) ∷ []); coroots = pair (pos 1) (pos 0) ∷ (pair (pos 0) (pos 1) ∷ []) };
   positive =
@@ -159,7 +178,7 @@ b2 = record {
       ∷ (root (pair (pos 1) (pos 1)) (pair (pos 2) (pos 1)) ∷ (root (pair (pos 1) (pos 2)) (pair (pos 1) (pos 1)) ∷ [])));
 }
 
-b2_loaded : IsLoaded b2
+pub b2_loaded : IsLoaded b2
 b2_loaded = loaded_from b2 refl
 
 abbrev b2_values : List ℤ
@@ -187,16 +206,16 @@ b2_terms =
     ∷ (term 1 1 (negsuc 1) (pos 1) ∷ term 2 1 (negsuc 3) (pos 1) ∷ []) ∷ (term 1 1 (negsuc 0) (negsuc 1) ∷ []) ∷ [] ∷ (term 1 1 (pos 2) (negsuc 0) ∷ term 2 1 (negsuc 0) (pos 1) ∷ []) ∷ [] ∷ (term 1 1 (negsuc 3) (pos 2) ∷ []) ∷ [] ∷ []
     ∷ [] ∷ (term 1 1 (negsuc 2) (pos 1) ∷ term 1 2 (negsuc 0) (negsuc 0) ∷ []) ∷ (term 1 1 (negsuc 1) (negsuc 0) ∷ term 1 2 (pos 1) (pos 1) ∷ []) ∷ [] ∷ [] ∷ [] ∷ [] ∷ [] ∷ []
 
-abbrev b2_table : ConstantTable
+abbrev pub b2_table : ConstantTable
 b2_table = record { positive = 4; values = b2_values; terms = b2_terms }
 
-b2_constants : LoadsConstants b2 (Ok b2_table)
+pub b2_constants : LoadsConstants b2 (Ok b2_table)
 b2_constants = constants_from b2 b2_table b2_loaded refl
 
-abbrev b2_over_three : FrameData
+abbrev pub b2_over_three : FrameData
 b2_over_three = record { field = three; datum = b2; constants = b2_table }
 
-b2_lawful : IsLawfulFrame b2_over_three
+pub b2_lawful : IsLawfulFrame b2_over_three
 b2_lawful = record { loaded = b2_loaded; constants = b2_constants }
 
 b2_collects : CollectLaws (setting b2_over_three)

@@ -1,8 +1,9 @@
--- The definitions at work: torus vectors over the fields of five and of three.
+-- The definitions at work: torus vectors over the fields of five and of three, and the letters of a braid.
 use Rattle.std.proofs.Common.{◌≡◌, ℕ, ◌<◌, T, List, [], ◌∷◌, refl, ap, subst, get_or, lit<, arith}
 use Rattle.lie_field.specs.FiniteField.{FiniteField, is_field, is_ring_data, is_new}
 use Rattle.lie_field.specs.Quotient.{field_data, degree, order, leading, shift, element, mul, inv, power}
 use Rattle.lie_field.specs.Polynomials.{residues}
+use Rattle.lie_letters.specs.Braids.{alternating}
 use Rattle.lie_letters.specs.declared.letter.Letter.{Letter}
 use Rattle.lie_letters.specs.declared.letter.Letter.TheVariants.{H}
 use Rattle.lie_letters.specs.Entries.{AreUnits, times_each, inverses}
@@ -78,3 +79,7 @@ two_and_three_apart d =
 -- h(0) is no letter, so it is joined to nothing
 no_letter : (v : List Letter) → JoinedSpelled line (H (0 ∷ []) ∷ []) v → ⊥
 no_letter v d = let unit = (JoinedSpelled-over line (H (0 ∷ []) ∷ []) v d).0.1.0.0 in omega (arith, unit)
+
+-- s_2 s_1 s_2, the letters of a braid of order three
+three_letters : alternating 2 1 3 ≡ 2 ∷ (1 ∷ (2 ∷ []))
+three_letters = refl

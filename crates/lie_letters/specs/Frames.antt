@@ -1,7 +1,7 @@
 -- A frame: the field, the root datum and its constants, and the setting that they give, total at every value.
 -- Source: Cohen, Murray, Taylor, Computing in groups of Lie type (2004).
 -- Own: roots are places in the full order; the terms are those that the table of constants has at signed numbers.
-use Rattle.std.specs.Prelude.{ℕ, suc, ◌<◌, ltb, eqb, List, map, Ok}
+use Rattle.std.specs.Prelude.{ℕ, suc, ◌<◌, List, map, Ok}
 use Rattle.std.proofs.Math.Facts.{yes_eqb}
 use Rattle.lie_field.specs.FiniteField.{FiniteField}
 use Rattle.lie_field.specs.Elements.{Elem, zero_elem, one_elem, elem_add, elem_neg, elem_mul, elem_inv, elem_int, as_nonzero}
@@ -53,7 +53,6 @@ abbrev pub setting : FrameData → Setting
 setting f = record {
   Elem = Elem f.field;
   zero = zero_elem f.field;
-  is_zero = λ a. eqb a.number 0;
   one = one_elem f.field;
   add = elem_add f.field;
   neg = elem_neg f.field;
@@ -67,7 +66,6 @@ setting f = record {
   Before = λ r s. r.number < s.number;
   positives = positive_names f.datum;
   is_negative = is_negative_name f.datum;
-  index_before = λ i j. ltb i.number j.number;
   Torus = TorusOver f.field (dim f);
   torus_one = one_over f.field (dim f);
   torus_mul = mul_over f.field (dim f);

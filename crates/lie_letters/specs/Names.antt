@@ -1,4 +1,4 @@
--- RootDatum and simple roots of a datum as types: the places of the full order r_1, .., r_m, r_(-1), .., r_(-m), counted from 0.
+-- Roots and simple roots of a datum as types: the places of the full order r_1, .., r_m, r_(-1), .., r_(-m), counted from 0.
 -- Own: an operation whose result is no root of the list answers the root that it began with, so each one is total.
 --
 --   a root                   RootName d              its place in the full order

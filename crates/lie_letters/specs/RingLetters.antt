@@ -5,8 +5,8 @@
 --   r, s                                 numbers of positive roots, from 1 to m, in the order of the roots
 --   x_r(a)                               (r, a)
 --   a^n                                  power R a n
---   x_(ir+js)(C_ijrs (-t)^i u^j), ..     term_letters R cs t u, where cs has the terms of r and s
---   the reversed word of w               inverted R w
+--   x_(ir+js)(C_ijrs (-t)^i u^j), ..     term_word R cs t u, where cs has the terms of r and s
+--   the inverse word of w                inverse_word R w
 --   x_1(a_1) x_2(a_2) .. x_m(a_m)        full_word [a_1, a_2, .., a_m]
 use Rattle.std.specs.Prelude.{ℕ, zero, suc, ◌+◌, ◌≤◌, ℤ, List, [], ◌∷◌, ◌++◌, map}
 use Rattle.lie_ring.specs.Rings.{RingOn, IsElem}
@@ -25,13 +25,13 @@ pub record CommutatorTerm : Type 0 where
   pub value : ℤ
 
 -- the letters that the terms of r and s give at t and u, in their order
-abbrev pub term_letters : {A : Type 0} → RingOn A → List CommutatorTerm → A → A → List (RingLetter A)
-term_letters R cs t u = map (λ c. (c.root, R.mul (R.of_int c.value) (R.mul (power R (R.neg t) c.i) (power R u c.j)))) cs
+abbrev pub term_word : {A : Type 0} → RingOn A → List CommutatorTerm → A → A → List (RingLetter A)
+term_word R cs t u = map (λ c. (c.root, R.mul (R.of_int c.value) (R.mul (power R (R.neg t) c.i) (power R u c.j)))) cs
 
 -- the inverse letters in reverse order
-abbrev pub inverted : {A : Type 0} → RingOn A → List (RingLetter A) → List (RingLetter A)
-inverted R [] = []
-inverted R (x ∷ w) = inverted R w ++ (x.0, R.neg x.1) ∷ []
+abbrev pub inverse_word : {A : Type 0} → RingOn A → List (RingLetter A) → List (RingLetter A)
+inverse_word R [] = []
+inverse_word R (x ∷ w) = inverse_word R w ++ (x.0, R.neg x.1) ∷ []
 
 -- a letter for each element, zeros included, at the roots from r on
 abbrev pub full_from : {A : Type 0} → ℕ → List A → List (RingLetter A)

@@ -4,7 +4,7 @@
 use Rattle.std.specs.Prelude.{ℕ, ◌≤◌, ◌<◌, List, [], ◌∷◌}
 use Rattle.lie_ring.specs.Rings.{RingOn, IsElem}
 use Rattle.lie_letters.specs.Chains.{JoinedBy}
-use Rattle.lie_letters.specs.RingLetters.{RingLetter, CommutatorTerm, term_letters}
+use Rattle.lie_letters.specs.RingLetters.{RingLetter, CommutatorTerm, term_word}
 
 -- the two sides of a relation, where there are m positive roots and terms r s are the terms of the roots r and s
 pub data RingRelation {A : Type 0} (R : RingOn A) (m : ℕ) (terms : ℕ → ℕ → List CommutatorTerm) : List (RingLetter A) → List (RingLetter A) → Type 0 where
@@ -15,7 +15,7 @@ pub data RingRelation {A : Type 0} (R : RingOn A) (m : ℕ) (terms : ℕ → ℕ
       → RingRelation R m terms ((r, a) ∷ (r, b) ∷ []) ((r, R.add a b) ∷ [])
   -- `x_s(u) x_r(t) = x_r(t) x_s(u)` times the letters of the terms, for r before s
   S2 : (r s : ℕ) (t u : A) → 1 ≤ r → r < s → s ≤ m → IsElem R t → IsElem R u
-      → RingRelation R m terms ((s, u) ∷ (r, t) ∷ []) ((r, t) ∷ (s, u) ∷ term_letters R (terms r s) t u)
+      → RingRelation R m terms ((s, u) ∷ (r, t) ∷ []) ((r, t) ∷ (s, u) ∷ term_word R (terms r s) t u)
 
 -- a chain over the ring leads from one word to the other
 abbrev pub RingJoined : {A : Type 0} → RingOn A → ℕ → (ℕ → ℕ → List CommutatorTerm) → List (RingLetter A) → List (RingLetter A) → Type 0

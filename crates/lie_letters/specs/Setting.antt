@@ -20,7 +20,6 @@ pub record Setting : Type 1 where
   -- the field
   pub Elem : Type 0
   pub zero : Elem
-  pub is_zero : Elem → Bool
   pub one : Elem
   pub add : Elem → Elem → Elem
   pub neg : Elem → Elem
@@ -33,10 +32,9 @@ pub record Setting : Type 1 where
   pub simple : Index → Root
   pub reflect : Index → Root → Root
   pub Before : Root → Root → Type 0
-  -- r_1 .. r_m in order, whether a root is negative, and the order of simple indices
+  -- r_1 .. r_m in order, and whether a root is negative
   pub positives : List Root
   pub is_negative : Root → Bool
-  pub index_before : Index → Index → Bool
   -- the torus
   pub Torus : Type 0
   pub torus_one : Torus

@@ -18,6 +18,8 @@ ghost use Rattle.lie_letters.specs.PositiveTerms.{positive_terms};
 ghost use Rattle.lie_letters.specs.Letters.{Word};
 ghost use Rattle.lie_letters.specs.Relations.{Relation, Joined};
 ghost use Rattle.lie_letters.specs.Spelled.{JoinedSpelled, IsLetterOver, IsWordOver, HasNoWeylLetters, root_letters, reversed};
+ghost use Rattle.lie_letters.specs.SignedFrames.{SignedFrame, unsigned};
+ghost use Rattle.lie_letters.specs.GroupSpelled.{JoinedInGroup};
 
 use crate::letter::Letter;
 
@@ -106,4 +108,29 @@ pub fn torus_passes_roots()
 /// constants of a datum are determined.
 pub fn joined_by_any_table()
     ensures { (f g : FrameData) (u v : List Letter) → IsLawfulFrame f → IsLawfulFrame g → f.field ≡ g.field → f.datum ≡ g.datum → JoinedSpelled f u v → JoinedSpelled g u v }
+{}
+
+/// A word of the frame is joined to itself in the group.
+pub fn joined_in_group_reflexive()
+    ensures { (f : SignedFrame) (u : List Letter) → IsWordOver (unsigned f) u → JoinedInGroup f u u }
+{}
+
+/// Words that are joined in the group are joined to what the second is joined to.
+pub fn joined_in_group_transitive()
+    ensures { (f : SignedFrame) (u v w : List Letter) → JoinedInGroup f u v → JoinedInGroup f v w → JoinedInGroup f u w }
+{}
+
+/// Words that are joined in the group are joined the other way round.
+pub fn joined_in_group_symmetric()
+    ensures { (f : SignedFrame) (u v : List Letter) → JoinedInGroup f u v → JoinedInGroup f v u }
+{}
+
+/// Words that are joined part by part in the group are joined.
+pub fn joined_in_group_appended()
+    ensures { (f : SignedFrame) (u v w x : List Letter) → JoinedInGroup f u v → JoinedInGroup f w x → JoinedInGroup f (u ++ w) (v ++ x) }
+{}
+
+/// Words that are joined by S0 to S4 are joined in the group.
+pub fn joined_in_group_plain()
+    ensures { (f : SignedFrame) (u v : List Letter) → JoinedSpelled (unsigned f) u v → JoinedInGroup f u v }
 {}

@@ -51,12 +51,14 @@ module _ {A : Type 0} (z : A) (h : ℕ) (columns : List (BTreeMap ℕ A)) (M : M
   pub next-kept : (row : ℕ) (e : A) → from ≤ row → lookup (is_at (nat_cmp row)) m.entries ≡ Some e
       → ((k : ℕ) → from ≤ k → IsSome (lookup (is_at (nat_cmp k)) m.entries) → row ≤ k) → IsNextKept z M col from row e
   next-kept row e after found first =
-      let low : row < h = kept.within row col e (stored-read columns row col m within_columns read ∙ found) in
+      let stands = stored-read columns row col m within_columns read ∙ found in
+      let low : row < h = kept.within row col e stands in
       let within : row < M.height = omega (arith, low, ap (λ N. N.height) view) in
       record {
         after = after;
         within = within;
         here = sym (at_row row within ∙ ap (λ o. unwrap_or o z) found);
+        nonzero = kept.nonzero row col e stands;
         before = λ k a b. at_row k (omega (arith, b, within)) ∙ before_first (lookup (is_at (nat_cmp k)) m.entries) row k (first k a) b;
       }
 

@@ -17,6 +17,10 @@ IsWideSumAt R M N i j = 2 ^ 126 ≤ R.size (entry R.zero M i j) + R.size (entry 
 abbrev pub product_term_size : {A : Type 0} → RingOn A → Matrix A → Matrix A → ℕ → ℕ → ℕ → ℕ
 product_term_size R M N i j k = R.size (entry R.zero M i k) * R.size (entry R.zero N k j)
 
+-- the size of s + a b may reach 2 ^ 126, or the degree of a b 2 ^ 30
+abbrev pub IsWideStep : {A : Type 0} → RingOn A → A → A → A → Type 0
+IsWideStep R s a b = (2 ^ 126 ≤ R.size s + R.size a * R.size b) ⊎ (2 ^ 30 ≤ R.degree a + R.degree b)
+
 -- the entry of the product of the matrices of the sizes
 abbrev pub product_size : {A : Type 0} → RingOn A → Matrix A → Matrix A → ℕ → ℕ → ℕ
 product_size R M N i j = nat_sum_below M.width (product_term_size R M N i j)

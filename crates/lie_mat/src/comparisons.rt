@@ -32,7 +32,8 @@ fn same_row<R: Ring>(ring: &R, a: &Mat<R>, b: &Mat<R>, row: usize) -> bool
     requires cols { a.now.width ≡ b.now.width }
     requires fit { AllFit (R.ring ring.now) a.now }
     requires b_fit { AllFit (R.ring ring.now) b.now }
-    ensures { IsTrue result ↔ ((j : ℕ) → j < a.now.width → entry R.zero a.now row j ≡ entry R.zero b.now row j) }
+    ensures { IsTrue result ↔ ((j : ℕ) → j < a.now.width →
+        entry R.zero a.now row j ≡ entry R.zero b.now row j) }
 {
     for col in 0..a.cols() {
         if !same_entry(ring, a, b, row, col) {

@@ -89,7 +89,8 @@ fn fill_row<E: Entries>(
     requires width { E.width entries.now ≡ cols }
     requires partly { matrix.old ≡ partial_table E.Ring.zero rows cols (E.value entries.now) row 0 }
     requires fit { AllFit (E.Ring.ring (E.over entries.now)) matrix.old }
-    ensures partly { OnOk result (matrix.new ≡ partial_table E.Ring.zero rows cols (E.value entries.now) row cols) }
+    ensures partly { OnOk result (
+        matrix.new ≡ partial_table E.Ring.zero rows cols (E.value entries.now) row cols) }
     ensures fit { OnOk result (AllFit (E.Ring.ring (E.over entries.now)) matrix.new) }
     ensures wide { result ≡ Err RingStop.Wide → IsSomewhere rows cols (E.is_wide entries.now) }
 {
@@ -118,7 +119,8 @@ fn fill_entry<E: Entries>(
     requires width { E.width entries.now ≡ cols }
     requires partly { matrix.old ≡ partial_table E.Ring.zero rows cols (E.value entries.now) row col }
     requires fit { AllFit (E.Ring.ring (E.over entries.now)) matrix.old }
-    ensures partly { OnOk result (matrix.new ≡ partial_table E.Ring.zero rows cols (E.value entries.now) row (col + 1)) }
+    ensures partly { OnOk result (
+        matrix.new ≡ partial_table E.Ring.zero rows cols (E.value entries.now) row (col + 1)) }
     ensures fit { OnOk result (AllFit (E.Ring.ring (E.over entries.now)) matrix.new) }
     ensures wide { result ≡ Err RingStop.Wide → E.is_wide entries.now row col }
 {

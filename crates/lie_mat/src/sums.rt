@@ -1,9 +1,9 @@
 //! The rules for the entries of sums and products.
 
-ghost use Rattle.std.specs.Prelude.{◌≡◌, ℕ, ◌+◌, ◌*◌, ◌<◌, ◌≤◌, ◌^◌, ◌⊎◌, IfOk};
+ghost use Rattle.std.specs.Prelude.{◌≡◌, ℕ, ◌*◌, ◌<◌, IfOk};
 ghost use Rattle.lie_ring.specs.Rings.{Fits, sum_below};
 ghost use Rattle.lie_ring.specs.Matrices.{entry, AllFit, product_term, product_entry};
-ghost use Rattle.lie_mat.specs.Wide.{product_size, IsDeepAt};
+ghost use Rattle.lie_mat.specs.Wide.{IsWideProductAt, IsWideStep};
 
 use crate::entries::Entries;
 use crate::mats::Mat;
@@ -157,9 +157,11 @@ pub(crate) fn sum_of_products<R: Ring>(
     requires shape { first.now.width ≡ second.now.height }
     requires first_fit { AllFit (R.ring ring.now) first.now }
     requires second_fit { AllFit (R.ring ring.now) second.now }
-    ensures value { IfOk result (λ r. r ≡ product_entry (R.ring ring.now) first.now second.now row col) }
+    ensures value { IfOk result (λ r.
+        r ≡ product_entry (R.ring ring.now) first.now second.now row col) }
     ensures fits { IfOk result (Fits (R.ring ring.now)) }
-    ensures wide { result ≡ Err RingStop.Wide → (2 ^ 126 ≤ product_size (R.ring ring.now) first.now second.now row col) ⊎ IsDeepAt (R.ring ring.now) first.now second.now row col }
+    ensures wide { result ≡ Err RingStop.Wide →
+        IsWideProductAt (R.ring ring.now) first.now second.now row col }
 {
     let mut sum = ring.zero(alloc)?;
     let mut from = 0;
@@ -185,9 +187,11 @@ fn add_product<R: Ring>(
     requires first_fit { AllFit (R.ring ring.now) first.now }
     requires y { Fits (R.ring ring.now) y.now }
     requires sum { Fits (R.ring ring.now) sum }
-    ensures value { IfOk result (λ r. r ≡ (R.ring ring.now).add sum ((R.ring ring.now).mul (entry (R.ring ring.now).zero first.now row mid) y.now)) }
+    ensures value { let S = R.ring ring.now in
+        IfOk result (λ r. r ≡ S.add sum (S.mul (entry S.zero first.now row mid) y.now)) }
     ensures fits { IfOk result (Fits (R.ring ring.now)) }
-    ensures wide { result ≡ Err RingStop.Wide → (2 ^ 126 ≤ (R.ring ring.now).size sum + (R.ring ring.now).size (entry (R.ring ring.now).zero first.now row mid) * (R.ring ring.now).size y.now) ⊎ (2 ^ 30 ≤ (R.ring ring.now).degree (entry (R.ring ring.now).zero first.now row mid) + (R.ring ring.now).degree y.now) }
+    ensures wide { let S = R.ring ring.now in
+        result ≡ Err RingStop.Wide → IsWideStep S sum (entry S.zero first.now row mid) y.now }
 {
     match first.get(row, mid) {
         None => Ok(sum),

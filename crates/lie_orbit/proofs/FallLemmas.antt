@@ -17,7 +17,8 @@ use Rattle.lie_datum.proofs.ClosureLemmas.{pigeonhole, in_from_contains}
 use Rattle.lie_datum.proofs.LoadedLaws.{all_only, all_in, all_simple, self, first}
 use Rattle.lie_datum.proofs.SignedRoots.{root_is, number_is, opposite_number}
 use Rattle.lie_datum.proofs.VectorLemmas.{entry_within, abs_add, abs_mul, abs_neg}
-use Rattle.lie_orbit.specs.Lowering.{coroot_pairing, HasSmallPairings, IsHalf, IsHighRoot, IsLow, IsFirstHigh, less_root, Lowers, step}
+use Rattle.lie_orbit.specs.Weights.{coroot_pairing, IsMinuscule}
+use Rattle.lie_orbit.specs.Lowering.{IsHalf, IsHighRoot, IsLow, IsFirstHigh, less_root, Lowers, step}
 use Rattle.lie_orbit.proofs.WeightLemmas.{covector_within, root_within, from_entries}
 
 -- ---- numbers
@@ -221,8 +222,8 @@ module _ (d : RootDatum) (loaded : IsLoaded d) where
       below_abs (coroot_pairing d w r) (10 ^ 32) (omega (arith, n, b, p))
 
   -- ---- the end
-  pub low_small : (x : Vector) → IsLow d x → HasSmallPairings d x
-  low_small x low r number = by (coroot_pairing d x r) refl
+  pub low_minuscule : (x : Vector) → IsLow d x → IsMinuscule d x
+  low_minuscule x low r number = by (coroot_pairing d x r) refl
     where
       turned : coroot_pairing d x (neg_ℤ r) ≡ neg_ℤ (coroot_pairing d x r)
       turned =

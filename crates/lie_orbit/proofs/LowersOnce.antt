@@ -1,24 +1,18 @@
 -- A weight lowers to one weight.
-use Rattle.std.proofs.Common.{◌≡◌, ℤ, length, refl, ap, subst, ◌∙◌, arith, ⊎_elim}
+use Rattle.std.proofs.Common.{◌≡◌, ℤ, refl, ap, subst, ◌∙◌, arith}
 use Rattle.std.proofs.lemmas.Int.{ints}
 use Rattle.lie_datum.specs.Vectors.{Vector}
 use Rattle.lie_datum.specs.RootList.{RootDatum}
-use Rattle.lie_datum.specs.Numbers.{place}
-use Rattle.lie_datum.proofs.Entries.{within_or_past}
-use Rattle.lie_datum.proofs.NumberLemmas.{place_within}
-use Rattle.lie_datum.proofs.SignedRoots.{same_place}
-use Rattle.lie_orbit.specs.Lowering.{coroot_pairing, IsHalf, IsFirstHigh, less_root, Lowers, low, step}
+use Rattle.lie_orbit.specs.Weights.{coroot_pairing}
+use Rattle.lie_orbit.specs.Lowering.{IsHalf, IsHighRoot, IsFirstHigh, less_root, Lowers, low, step}
 use Rattle.lie_orbit.specs.Laws.{LowersOneWay}
+use Rattle.lie_orbit.proofs.WeightLemmas.{one_first}
 
 one_half : (m a b : ℤ) → IsHalf m a → IsHalf m b → a ≡ b
 one_half m a b p q = let x = p.0 in let y = p.1 in let z = q.0 in let w = q.1 in omega (arith, ints, x, y, z, w)
 
 one_high : (d : RootDatum) (x : Vector) (r s : ℤ) → IsFirstHigh d x r → IsFirstHigh d x s → r ≡ s
-one_high d x r s a b =
-    let m = length d.positive in
-    same_place m r s (place_within d r a.number) (place_within d s b.number)
-    (⊎_elim (λ l. absurd (b.before r a.number l a.high))
-    (λ l. ⊎_elim (λ k. absurd (a.before s b.number k b.high)) (λ k. omega (arith, l, k)) (within_or_past (place m s) (place m r))) (within_or_past (place m r) (place m s)))
+one_high d x r s a b = one_first d (IsHighRoot d x) r s a.number b.number a.high b.high a.before b.before
 
 pub lowers_once : LowersOneWay
 lowers_once d x _ _ (low _ l) (low _ k) = refl

@@ -18,7 +18,7 @@ use Rattle.lie_datum.proofs.NormBound.{same_or_not, product_positive, length_pos
 use Rattle.lie_datum.proofs.ClosureLemmas.{contains_from_in}
 use Rattle.lie_datum.proofs.LoadedLaws.{first, second}
 use Rattle.lie_datum.proofs.SignedRoots.{number_is}
-use Rattle.lie_orbit.specs.Lowering.{coroot_pairing, HasSmallPairings}
+use Rattle.lie_orbit.specs.Weights.{coroot_pairing, IsMinuscule}
 use Rattle.lie_orbit.specs.Laws.{root_sum, IsZero, SmallSumsVanish}
 
 -- ---- vectors with the same entries
@@ -230,19 +230,19 @@ module _ (d : RootDatum) (loaded : IsLoaded d) where
   all_roots_in [] h = tt
   all_roots_in (r ∷ rs) h = (h r (here refl), all_roots_in rs (λ s p. h s (there p)))
 
-  light_pairing : (x : Vector) → HasSmallPairings d x → (r : Root) → IsRoot d.base r → pairing x (covector d.base r) ≤ℤ pos 1
-  light_pairing x light r p =
+  minuscule_pairing : (x : Vector) → IsMinuscule d x → (r : Root) → IsRoot d.base r → pairing x (covector d.base r) ≤ℤ pos 1
+  minuscule_pairing x minuscule r p =
       let q = number_is d loaded r p in
-      let h = light q.0 q.1 in
+      let h = minuscule q.0 q.1 in
       subst (λ t. pairing x (covector d.base t) ≤ℤ pos 1) q.2 (at_most (coroot_pairing d x q.0) h)
     where
       at_most : (z : ℤ) → unsigned_abs z ≤ 1 → z ≤ℤ pos 1
       at_most (pos n) l = omega (arith, ints, l)
       at_most (negsuc n) l = omega (arith, ints)
 
-  pub vanishes : (rs : List Root) → ((r : Root) → Contains rs r → IsRoot d.base r) → HasSmallPairings d (root_sum d.base rs) → IsZero (root_sum d.base rs)
-  vanishes rs roots light =
-      by_length (length rs) rs (all_roots_in rs (λ r p. roots r (contains_from_in rs r p))) (omega arith) (light_pairing (root_sum d.base rs) light)
+  pub vanishes : (rs : List Root) → ((r : Root) → Contains rs r → IsRoot d.base r) → IsMinuscule d (root_sum d.base rs) → IsZero (root_sum d.base rs)
+  vanishes rs roots minuscule =
+      by_length (length rs) rs (all_roots_in rs (λ r p. roots r (contains_from_in rs r p))) (omega arith) (minuscule_pairing (root_sum d.base rs) minuscule)
 
 pub small_sums : SmallSumsVanish
-small_sums d rs loaded roots light = vanishes d loaded rs roots light
+small_sums d rs loaded roots minuscule = vanishes d loaded rs roots minuscule

@@ -1,25 +1,17 @@
--- Weights under the coroots, and lowering: while a root pairs with a weight to 2 or more, the first such root is taken away,
+-- Lowering of a weight: while a root pairs with a weight to 2 or more, the first such root is taken away,
 -- half as often as it pairs.
 -- Source: any text on weights, for that each class of weights modulo the roots has a member that pairs with all roots to -1, 0 or 1.
 -- Own: which root is taken away first, and how often.
 --
---   <x, r^>          coroot_pairing d x r        r is a signed number
 --   floor(m / 2)     IsHalf m c                  c is that number
 --   x - c r          less_root d x c r
 --   x lowers to y    Lowers d x y                no root pairs with y to 2 or more, and the steps lead from x to it
-use Rattle.std.specs.Prelude.{◌<◌, ℤ, pos, neg_ℤ, ◌+ℤ◌, ◌*ℤ◌, ◌≤ℤ◌, ◌≤◌, length, unsigned_abs}
-use Rattle.lie_datum.specs.Vectors.{Vector, pairing, plus, times}
-use Rattle.lie_datum.specs.RootDatum.{vector, covector}
+use Rattle.std.specs.Prelude.{◌<◌, ℤ, pos, neg_ℤ, ◌+ℤ◌, ◌*ℤ◌, ◌≤ℤ◌, length}
+use Rattle.lie_datum.specs.Vectors.{Vector, plus, times}
+use Rattle.lie_datum.specs.RootDatum.{vector}
 use Rattle.lie_datum.specs.RootList.{RootDatum, root_of, IsNumber}
 use Rattle.lie_datum.specs.Numbers.{place}
-
--- the pairing of a weight with the coroot of r
-abbrev pub coroot_pairing : RootDatum → Vector → ℤ → ℤ
-coroot_pairing d x r = pairing x (covector d.base (root_of d r))
-
--- x pairs with each coroot to -1, 0 or 1
-abbrev pub HasSmallPairings : RootDatum → Vector → Type 0
-HasSmallPairings d x = (r : ℤ) → IsNumber d r → unsigned_abs (coroot_pairing d x r) ≤ 1
+use Rattle.lie_orbit.specs.Weights.{coroot_pairing}
 
 -- c is the greatest number that is not above m / 2
 abbrev pub IsHalf : ℤ → ℤ → Type 0

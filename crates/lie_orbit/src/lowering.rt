@@ -3,7 +3,8 @@
 ghost use Rattle.std.specs.Prelude.{◌≡◌, ℤ, pos, ◌*◌, ◌^◌, ◌≤ℤ◌, MatchOption};
 ghost use Rattle.lie_datum.specs.RootDatum.{IsWithin};
 ghost use Rattle.lie_datum.specs.RootList.{IsNumber};
-ghost use Rattle.lie_orbit.specs.Lowering.{coroot_pairing, HasSmallPairings, IsHalf, IsHighRoot, IsLow, IsFirstHigh, less_root, Lowers};
+ghost use Rattle.lie_orbit.specs.Weights.{coroot_pairing, IsMinuscule};
+ghost use Rattle.lie_orbit.specs.Lowering.{IsHalf, IsHighRoot, IsLow, IsFirstHigh, less_root, Lowers};
 
 use crate::vectors::{less_multiple, pairing};
 use lie_datum::{Datum, RootId, Vector};
@@ -45,7 +46,7 @@ fn lowered_by(datum: &Datum, weight: &Vector, r: RootId) -> Vector
 pub fn lower(datum: &Datum, v: &Vector) -> Vector
     requires { IsWithin 8000001 v.now }
     ensures lowers { Lowers datum.now v.now result }
-    ensures small { HasSmallPairings datum.now result }
+    ensures minuscule { IsMinuscule datum.now result }
     ensures near { IsWithin (2 * 10 ^ 32) result }
 {
     datum.loaded();

@@ -20,7 +20,7 @@ pub fn pairing(x: &Vector, y: &Vector) -> i128
 }
 
 /// A weight less a multiple of a root.
-pub(crate) fn less_multiple(weight: &Vector, by: i128, root: &Vector) -> Vector
+pub fn less_multiple(weight: &Vector, by: i128, root: &Vector) -> Vector
     requires weight { IsWithin (25 * 10 ^ 31) weight.now }
     requires by { unsigned_abs by ≤ 10 ^ 32 }
     requires root { IsWithin 80000 root.now }

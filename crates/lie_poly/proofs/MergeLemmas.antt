@@ -1,5 +1,5 @@
 -- How the canonical list of two canonical lists begins, and where a list is its own canonical list.
-use Rattle.std.proofs.Common.{◌≡◌, ◌≢◌, ℕ, suc, ◌+◌, ◌<◌, [], ◌∷◌, ◌++◌, length, get_or, drop, refl, sym, ap, ap₂, ◌∙◌, cond, subst, Less, Equal, Greater, true, false, not, T, arith}
+use Rattle.std.proofs.Common.{◌≡◌, ◌≢◌, ℕ, suc, ◌+◌, ◌<◌, [], ◌∷◌, ◌++◌, length, get_or, drop, refl, sym, ap, ap₂, ◌∙◌, cond, subst, Less, Equal, Greater, true, false, T, arith}
 use Rattle.std.specs.Prelude.{ℤ, pos, ◌+ℤ◌, ◌*ℤ◌}
 use Rattle.std.specs.Ordering.{int_eq, is_lt, match_ordering, ordering_reverse}
 use Rattle.std.proofs.lemmas.Int.{ints}

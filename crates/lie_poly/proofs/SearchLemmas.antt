@@ -7,7 +7,7 @@ use Rattle.std.proofs.lemmas.Bool.{cases_lt}
 use Rattle.std.specs.Ordering.{is_eq, is_lt, ordering_reverse}
 use Rattle.std.specs.List.Sorted.{IsBinarySearchResult, IsSortedBy}
 use Rattle.std.proofs.lemmas.List.Sorted.{searchable_from_sorted}
-use Rattle.lie_poly.specs.Terms.{Exponents, Term, Terms, term, exponents_cmp, is_canonical, coefficient_in}
+use Rattle.lie_poly.specs.Terms.{Exponents, Term, Terms, exponents_cmp, is_canonical, coefficient_in}
 use Rattle.lie_poly.specs.Canonical.{above, exponents_total, exact_exponents, rest_above, rest_canonical, left_of, right_of, less_is, first_two, coefficient-first}
 
 -- a member of a list that is past e

@@ -5,7 +5,7 @@ use Rattle.std.specs.Ordering.{is_eq}
 use Rattle.std.proofs.lemmas.Int.{ints}
 use Rattle.std.proofs.lemmas.Cmp.{tied_itself}
 use mathlib.Core.Logic.{⊎_elim}
-use Rattle.lie_poly.specs.Terms.{Exponents, exponents_cmp, shift, products}
+use Rattle.lie_poly.specs.Terms.{Exponents, exponents_cmp, shift}
 use Rattle.lie_poly.specs.Canonical.{exponents_total, exact_exponents, eq_is}
 use Rattle.lie_poly.specs.Polynomials.{Polynomial, coefficient, monomial, plus, negative, product}
 use Rattle.lie_poly.specs.LaurentLaws.{delta, total, coefficient-total, same_coefficients, over_add, over_neg, over_mul, over_monomial}

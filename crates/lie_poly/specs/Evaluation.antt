@@ -3,18 +3,12 @@
 --
 --   t^i u^j                         monomial_at f t u     a negative exponent is a power of the inverse
 --   the sum of the c t^i u^j        evaluation f t u p    over the terms of p, in the field f
---   an element but 0                IsUnit f t
-use Rattle.std.specs.Prelude.{ℕ, ◌<◌, ◌≢◌, ◌≤ℤ◌, pos, ◌⊎◌, All}
-use Rattle.lie_field.specs.Quotient.{order, mul, power_int}
+use Rattle.std.specs.Prelude.{ℕ, ◌≢◌, ◌≤ℤ◌, pos, ◌⊎◌, All}
+use Rattle.lie_field.specs.Quotient.{mul, power_int}
 use Rattle.lie_field.specs.FiniteField.{FiniteField}
 use Rattle.lie_field.specs.FieldRing.{field_ring}
 use Rattle.lie_poly.specs.Terms.{Exponents, total_over}
 use Rattle.lie_poly.specs.Polynomials.{Polynomial}
-
--- t is an element of the field, and not 0
-pub record IsUnit (f : FiniteField) (t : ℕ) : Type 0 where
-  pub below : t < order f.given
-  pub not_zero : t ≢ 0
 
 -- t^i u^j
 abbrev pub monomial_at : FiniteField → ℕ → ℕ → Exponents → ℕ

@@ -8,7 +8,8 @@ use Rattle.lie_field.specs.FiniteField.{FiniteField}
 use Rattle.lie_field.specs.FieldRing.{field_ring}
 use Rattle.lie_poly.specs.Terms.{total_over}
 use Rattle.lie_poly.specs.Polynomials.{Polynomial, coefficient, monomial, plus, negative, product, laurent}
-use Rattle.lie_poly.specs.Evaluation.{IsUnit, evaluation}
+use Rattle.lie_field.specs.Units.{IsUnit}
+use Rattle.lie_poly.specs.Evaluation.{evaluation}
 
 -- polynomials with the same coefficients are equal
 abbrev pub PolynomialsAreCoefficients : Type 0

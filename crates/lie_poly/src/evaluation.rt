@@ -4,7 +4,8 @@ ghost use Rattle.std.specs.Prelude.{◌≡◌, ◌≢◌, ◌<◌, ◌⊎◌, �
 ghost use Rattle.lie_field.specs.Quotient.{order, mul, of_int};
 ghost use Rattle.lie_field.specs.FieldRing.{field_ring};
 ghost use Rattle.lie_poly.specs.Terms.{total_over};
-ghost use Rattle.lie_poly.specs.Evaluation.{IsUnit, monomial_at, evaluation, IsDefinedInT, IsDefinedInU};
+ghost use Rattle.lie_field.specs.Units.{IsUnit};
+ghost use Rattle.lie_poly.specs.Evaluation.{monomial_at, evaluation, IsDefinedInT, IsDefinedInU};
 
 use crate::laurent::Laurent;
 use crate::poly::Poly;
@@ -50,25 +51,14 @@ fn term_value(x: Term, field: &Field, t: Fe, u: Fe) -> Fe
     requires u_below { u < order field.now.given }
     requires t_defined { (t ≢ 0) ⊎ (pos 0 ≤ℤ x.exponents.0) }
     requires u_defined { (u ≢ 0) ⊎ (pos 0 ≤ℤ x.exponents.1) }
-    ensures value { result ≡ mul field.now.given (of_int field.now.given x.coefficient) (monomial_at field.now t u x.exponents) }
+    ensures value { let image = of_int field.now.given x.coefficient in
+        result ≡ mul field.now.given image (monomial_at field.now t u x.exponents) }
     ensures below { result < order field.now.given }
 {
     let power_t = field.pow(t, i128::from(x.exponents.0));
     let power_u = field.pow(u, i128::from(x.exponents.1));
     let monomial = field.mul(power_t, power_u);
-    field.mul(image_of(field, x.coefficient), monomial)
-}
-
-/// The image of an integer.
-fn image_of(field: &Field, n: i128) -> Fe
-    ensures value { result ≡ of_int field.now.given n }
-    ensures below { result < order field.now.given }
-{
-    let residue = (n.unsigned_abs() % u128::from(field.p())) as u32;
-    match field.elem(residue) {
-        Some(element) => { if n < 0 { field.neg(element) } else { element } }
-        None => unreachable!(),
-    }
+    field.mul(field.integer(x.coefficient), monomial)
 }
 
 /// Evaluation at elements t and u of a field that are not 0.

@@ -1,13 +1,13 @@
 //! Laurent polynomials in t and u: terms, coefficients, differences.
 
-ghost use Rattle.std.specs.Prelude.{◌≡◌, ◌^◌, ◌<◌, ◌≤◌, T, pos, nat_abs, IfOk, OnOk, MatchOption};
+ghost use Rattle.std.specs.Prelude.{◌≡◌, ◌^◌, ◌<◌, ◌≤◌, T, nat_abs, IfOk, OnOk, MatchOption};
 ghost use Rattle.lie_ring.specs.Rings.{Fits};
 ghost use Rattle.lie_poly.specs.Terms.{is_canonical};
-ghost use Rattle.lie_poly.specs.Polynomials.{coefficient, monomial, size, laurent};
+ghost use Rattle.lie_poly.specs.Polynomials.{coefficient, monomial, laurent};
 ghost use Rattle.lie_poly.specs.Differences.{IsFirstDifference};
 
 use crate::differences::{coefficient_of, first_difference_of};
-use crate::sizes::{SIZE_LIMIT, size_of};
+use crate::sizes::SIZE_LIMIT;
 use crate::sums::push_kept;
 use crate::term::Term;
 use lie_ring::RingStop;
@@ -62,14 +62,6 @@ impl Poly {
         ensures { result ≡ coefficient self.now et eu }
     {
         coefficient_of(&self.terms, (et, eu))
-    }
-
-    /// The sum of the absolute values of the coefficients.
-    pub fn size(&self) -> i128
-        requires { size self.now < 2 ^ 126 }
-        ensures { result ≡ pos (size self.now) }
-    {
-        size_of(&self.terms) as i128
     }
 
     /// The exponents of t and of u where two polynomials first differ, and the coefficients of

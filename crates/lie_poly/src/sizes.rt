@@ -40,7 +40,9 @@ pub(crate) fn degree_of(terms: &[Term]) -> u32
 pub(crate) fn is_wide_product(xs: &[Term], ys: &[Term]) -> bool
     requires xs { size_of xs.now < 2 ^ 126 }
     requires ys { size_of ys.now < 2 ^ 126 }
-    ensures { IsTrue result ↔ (2 ^ 126 ≤ size_of xs.now * size_of ys.now) ⊎ (2 ^ 30 ≤ degree_of xs.now + degree_of ys.now) }
+    ensures { IsTrue result ↔
+        (2 ^ 126 ≤ size_of xs.now * size_of ys.now)
+        ⊎ (2 ^ 30 ≤ degree_of xs.now + degree_of ys.now) }
 {
     if u64::from(degree_of(xs)) + u64::from(degree_of(ys)) >= DEGREE_LIMIT {
         return true;

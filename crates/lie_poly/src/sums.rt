@@ -43,7 +43,8 @@ pub(crate) fn sum_of(alloc: Global, xs: &[Term], ys: &[Term]) -> Result<Vec<Term
 /// Appends the sum of two terms with the same exponents, unless it is 0.
 fn push_sum(sum: &mut Vec<Term>, x: Term, y: Term) -> Result<(), AllocError>
     requires small { nat_abs x.coefficient + nat_abs y.coefficient < 2 ^ 126 }
-    ensures { OnOk result (sum.new.items ≡ sum.old.items ++ keep (term y.exponents (x.coefficient +ℤ y.coefficient)) []) }
+    ensures { let both = term y.exponents (x.coefficient +ℤ y.coefficient) in
+        OnOk result (sum.new.items ≡ sum.old.items ++ keep both []) }
 {
     push_kept(
         sum,
@@ -67,7 +68,8 @@ pub(crate) fn push_kept(terms: &mut Vec<Term>, x: Term) -> Result<(), AllocError
 /// The negatives of the terms.
 pub(crate) fn negatives_of(alloc: Global, terms: &[Term]) -> Result<Vec<Term>, AllocError>
     requires { size_of terms.now < 2 ^ 126 }
-    ensures { IfOk result (λ negatives. negatives.items ≡ map (λ x. term x.exponents (neg_ℤ x.coefficient)) terms.now) }
+    ensures { IfOk result (λ negatives.
+        negatives.items ≡ map (λ x. term x.exponents (neg_ℤ x.coefficient)) terms.now) }
 {
     let mut negatives = Vec::new(alloc);
     for x in terms {
@@ -82,7 +84,8 @@ pub(crate) fn negatives_of(alloc: Global, terms: &[Term]) -> Result<Vec<Term>, A
 /// The product of two terms.
 fn product_term(x: Term, y: Term) -> Term
     requires small { nat_abs x.coefficient * nat_abs y.coefficient < 2 ^ 126 }
-    requires degree { max (nat_abs x.exponents.0) (nat_abs x.exponents.1) + max (nat_abs y.exponents.0) (nat_abs y.exponents.1) < 2 ^ 30 }
+    requires degree { max (nat_abs x.exponents.0) (nat_abs x.exponents.1)
+        + max (nat_abs y.exponents.0) (nat_abs y.exponents.1) < 2 ^ 30 }
     ensures { result ≡ product_term x y }
 {
     Term {

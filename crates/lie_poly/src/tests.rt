@@ -53,7 +53,6 @@ fn coefficients_of_product(rt: HostRuntime) -> Result<(), Fail> {
     for (et, eu, coefficient) in cases {
         assert_eq!(rt; product.coeff(et, eu), coefficient, "at t^{et} u^{eu}");
     }
-    assert_eq!(rt; product.size(), 2);
     Ok(())
 }
 

@@ -119,7 +119,3 @@ column z v = table (length v) 1 (λ i _. slice_index_or v i z)
 -- M applied to v: the entries of the product with the column v
 abbrev pub applied : {A : Type 0} → RingOn A → Matrix A → List A → List A
 applied R M v = map (λ i. product_entry R M (column R.zero v) i 0) (range_with_len 0 M.height)
-
--- h carries products of matrices to products
-abbrev pub CarriesProducts : {A B : Type 0} → RingOn A → RingOn B → (A → B) → Type 0
-CarriesProducts {A} R S h = (M N : Matrix A) → M.width ≡ N.height → AllElem R M → AllElem R N → image h (product R M N) ≡ product S (image h M) (image h N)

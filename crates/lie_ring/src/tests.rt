@@ -7,37 +7,37 @@ const TOP: i128 = (1 << 126) - 1;
 #[test]
 fn integers_up_to_the_bound(rt: HostRuntime) {
     let alloc = rt.alloc();
-    // a, b, and a + b where it is not wide
+    // a, b, and a + b
     let sums = [
-        (2, -5, Some(-3)),
-        (TOP, 0, Some(TOP)),
-        (-TOP + 1, 1, Some(-TOP + 2)),
-        (TOP, -1, None),
-        (-TOP, -TOP, None),
+        (2, -5, Ok(-3)),
+        (TOP, 0, Ok(TOP)),
+        (-TOP + 1, 1, Ok(-TOP + 2)),
+        (TOP, -1, Err(RingStop::Wide)),
+        (-TOP, -TOP, Err(RingStop::Wide)),
     ];
-    for (a, b, sum) in sums {
-        assert_eq!(rt; answer(Ints.add(alloc, &a, &b)), sum, "{a} + {b}");
+    for (a, b, sum) in &sums {
+        assert_eq!(rt; &Ints.add(alloc, a, b), sum, "{a} + {b}");
     }
-    // a, b, and a b where it is not wide
+    // a, b, and a b
     let products = [
-        (6, -7, Some(-42)),
-        (TOP, -1, Some(-TOP)),
-        (1 << 63, (1 << 63) - 1, Some((1 << 126) - (1 << 63))),
-        (1 << 63, 1 << 63, None),
-        (-TOP, 3, None),
+        (6, -7, Ok(-42)),
+        (TOP, -1, Ok(-TOP)),
+        (1 << 63, (1 << 63) - 1, Ok((1 << 126) - (1 << 63))),
+        (1 << 63, 1 << 63, Err(RingStop::Wide)),
+        (-TOP, 3, Err(RingStop::Wide)),
     ];
-    for (a, b, product) in products {
-        assert_eq!(rt; answer(Ints.mul(alloc, &a, &b)), product, "{a} {b}");
+    for (a, b, product) in &products {
+        assert_eq!(rt; &Ints.mul(alloc, a, b), product, "{a} {b}");
     }
-    // n, and its image where it is not wide
+    // n, and its image
     let images = [
-        (0, Some(0)),
-        (-TOP, Some(-TOP)),
-        (TOP + 1, None),
-        (i128::MIN, None),
+        (0, Ok(0)),
+        (-TOP, Ok(-TOP)),
+        (TOP + 1, Err(RingStop::Wide)),
+        (i128::MIN, Err(RingStop::Wide)),
     ];
-    for (n, image) in images {
-        assert_eq!(rt; answer(Ints.of_int(alloc, n)), image, "{n}");
+    for (n, image) in &images {
+        assert_eq!(rt; &Ints.of_int(alloc, *n), image, "{n}");
     }
 }
 
@@ -49,12 +49,4 @@ fn other_calls_of_the_integers(rt: HostRuntime) {
     assert_eq!(rt; Ints.neg(alloc, &TOP), Ok(-TOP));
     assert_eq!(rt; Ints.copy(alloc, &-4), Ok(-4));
     assert!(rt; Ints.same(&3, &3) && !Ints.same(&3, &-3));
-}
-
-/// The answer, or none where it is wide.
-fn answer(outcome: Result<i128, RingStop>) -> Option<i128> {
-    match outcome {
-        Ok(n) => Some(n),
-        Err(_) => None,
-    }
 }

@@ -20,7 +20,7 @@ use Rattle.lie_mat.specs.Wide.{IsHugeMatrix}
 use Rattle.lie_weight.specs.Conjugation.{absolute_height, reflected_height, IsLowering, conjugated, IsConjugate, IsCompletedAt, absolute_element, absolute_weyl, work, IsHuge, IsFirstHuge, IsCompletedBelow}
 use Rattle.lie_weight.specs.Factors.{IsOfSize, AreFactors, AreModuleFactors, work_on}
 use Rattle.lie_weight.specs.Completion.{Keeps, with_powers, IsSingle, IsStepped, IsBefore, IsPartly, AreAllFactors}
-use Rattle.lie_weight.proofs.WeightLemmas.{simple_some}
+use Rattle.lie_orbit.proofs.WeightLemmas.{simple_some}
 use Rattle.lie_weight.proofs.StepLemmas.{negative_some}
 use Rattle.lie_weight.proofs.FactorLemmas.{zero_not_huge, work_zero, conjugate_zero}
 use Rattle.lie_weight.proofs.DraftLemmas.{number_cases, powers_other, first_same, written_single, single_zero}

@@ -13,11 +13,7 @@ pub mod Fills
 pub mod MatrixLists
 pub mod Assembled
 pub mod SmallLemmas
-pub mod WeightLemmas
 pub mod VectorEquality
-pub mod GrowthLemmas
-pub mod ArithmeticLemmas
-pub mod OrderLemmas
 pub mod SizeLemmas
 pub mod FactorLemmas
 pub mod DraftLemmas
@@ -27,3 +23,4 @@ pub mod OrbitLemmas
 pub mod LoweringLemmas
 pub mod UniqueLemmas
 pub mod OneOrbitAnswer
+mod WorkedExamples

@@ -18,7 +18,7 @@ use Rattle.lie_datum.proofs.ReflectionLaws.{simple_reflection_law_holds}
 use Rattle.lie_datum.proofs.SignedRoots.{root_is, number_is, same_number, opposite_number}
 use Rattle.lie_datum.proofs.VectorLemmas.{abs_neg}
 use Rattle.lie_weight.specs.Conjugation.{absolute_height, reflected_height, IsLowering}
-use Rattle.lie_weight.proofs.WeightLemmas.{vector-simple, pairing-simple, simple_some, simple_is}
+use Rattle.lie_orbit.proofs.WeightLemmas.{vector-simple, pairing-simple, simple_some, simple_is}
 
 -- ---- numbers
 not_above : (a n : ℤ) → a ≤ℤ pos 0 → pos 0 ≤ℤ n → (a *ℤ n) ≤ℤ pos 0

@@ -1,57 +1,29 @@
 -- A weight has one answer of `Module::orbit`, want of memory aside.
 use Rattle.std.proofs.Common.{◌≡◌, ◌≢◌, ℕ, zero, suc, ◌<◌, ◌≤◌, ℤ, List, [], ◌∷◌, length, refl, sym, ap, subst, ◌∙◌, arith, ◌⊎◌, inl, inr, ⊎_elim, Result, Ok, Err}
-use Rattle.std.specs.List.{Contains}
-use Rattle.lie_base.proofs.Members.{HasNoRepeats}
 use Rattle.lie_datum.specs.Vectors.{Vector}
 use Rattle.lie_datum.specs.Numbers.{place}
 use Rattle.lie_datum.specs.RootList.{RootDatum, IsNumber, IsLoaded}
 use Rattle.lie_datum.proofs.Entries.{within_or_past}
-use Rattle.lie_datum.proofs.ClosureLemmas.{in_from_contains, contains_from_in, pigeonhole}
 use Rattle.lie_datum.proofs.NumberLemmas.{place_within}
 use Rattle.lie_datum.proofs.SignedRoots.{same_place}
 use Rattle.lie_const.specs.Modules.{Module}
 use Rattle.lie_const.specs.Signs.{Signs}
 use Rattle.lie_weight.specs.declared.faults.ModuleFault.{ModuleFault}
 use Rattle.lie_weight.specs.declared.faults.ModuleFault.TheVariants.{NoMemory, NotMinuscule, Wide, Heavy, Huge}
-use Rattle.lie_weight.specs.Orbits.{IsReached, IsOrbit, IsOrbitSize, AreDistinct, IsMinuscule, IsFirstHeavy}
+use Rattle.lie_orbit.specs.Weights.{IsMinuscule, HasLargePairing, IsFirstLargePairing}
+use Rattle.lie_orbit.proofs.WeightLemmas.{one_first}
+use Rattle.lie_orbit.specs.Orbits.{IsOrbit, IsOrbitSize}
+use Rattle.lie_orbit.proofs.OneOrbit.{order, one_orbit, most, one_size}
 use Rattle.lie_weight.specs.Conjugation.{absolute_height, IsCompletedBelow, IsHuge, Precedes}
 use Rattle.lie_weight.specs.OrbitModules.{HasSteps, IsOrbitModule}
 use Rattle.lie_weight.specs.OrbitFaults.{IsHeavyAt, AreLight, IsFirstHeavyWeight, IsFirstHugeConjugate, LoadsOrbit, LoadsOrbitOneWay}
-use Rattle.lie_weight.proofs.UniqueLemmas.{one_orbit, powers_same, huge_same, one_module}
+use Rattle.lie_weight.proofs.UniqueLemmas.{powers_same, huge_same, one_module}
 
--- ---- numbers
-order : (x y : ℕ) → ¬ (x < y) → ¬ (y < x) → x ≡ y
-order x y m n = ⊎_elim (λ h. absurd (m h)) (λ h. ⊎_elim (λ k. absurd (n k)) (λ k. omega (arith, h, k)) (within_or_past y x)) (within_or_past x y)
-
--- ---- the first heavy root
-one_heavy : (d : RootDatum) (w : Vector) (r s : ℤ) → IsFirstHeavy d w r → IsFirstHeavy d w s → r ≡ s
-one_heavy d w r s a b =
-    same_place (length d.positive) r s (place_within d r a.number) (place_within d s b.number)
-    (order (place (length d.positive) r) (place (length d.positive) s) (λ l. b.before r a.number l a.heavy) (λ l. a.before s b.number l b.heavy))
+-- ---- the first root with a large pairing
+one_large : (d : RootDatum) (w : Vector) (r s : ℤ) → IsFirstLargePairing d w r → IsFirstLargePairing d w s → r ≡ s
+one_large d w r s a b = one_first d (HasLargePairing d w) r s a.number b.number a.large b.large a.before b.before
 
 -- ---- the number of members
-simple_list : (ws : List Vector) → AreDistinct ws → HasNoRepeats ws
-simple_list [] h = tt
-simple_list (x ∷ ws) h =
-    ((λ p. let c = contains_from_in ws x p in h zero (suc c.0) x (omega arith) (omega (arith, c.1)) (sym c.2)), simple_list ws (λ j k z l m. h (suc j) (suc k) z (omega (arith, l)) (omega (arith, m))))
-
--- a list with all members has as many as any
-most : (d : RootDatum) (w : Vector) (n : ℕ) (ws : List Vector) → IsOrbitSize d w n → ((x : Vector) → IsReached d w x → Contains ws x) → n ≤ length ws
-most d w n ws s whole =
-    let p = pigeonhole s.ws ws (simple_list s.ws s.distinct) (λ x m. in_from_contains ws x (whole x (s.reached x (contains_from_in s.ws x m)))) in
-    let c = s.count in
-    omega (arith, p, c)
-
-no_more : (d : RootDatum) (w : Vector) (m n : ℕ) → IsOrbitSize d w m → IsOrbitSize d w n → ¬ (m < n)
-no_more d w m n a b l =
-    let f = b.few in
-    let p = most d w n a.ws b (a.whole (omega (arith, l, f))) in
-    let c = a.count in
-    absurd (omega (arith, p, c, l))
-
-one_size : (d : RootDatum) (w : Vector) (m n : ℕ) → IsOrbitSize d w m → IsOrbitSize d w n → m ≡ n
-one_size d w m n a b = order m n (no_more d w m n a b) (no_more d w n m b a)
-
 not_wide : (d : RootDatum) (w : Vector) (n : ℕ) (ws : List Vector) → 300 < n → IsOrbitSize d w n → IsOrbit d w ws → length ws ≤ 300 → ⊥
 not_wide d w n ws l s o f = let p = most d w n ws s (λ x. (o.members x).1) in absurd (omega (arith, p, l, f))
 
@@ -108,8 +80,8 @@ module _ (d : RootDatum) (loaded : IsLoaded d) (eta : Signs) (w : Vector) where
       one_module d v u b.steps.shape a.steps.shape same (λ r k n one. powers_same d loaded v u same b.steps a.steps eta (suc (absolute_height d r)) (λ q low. b.completed q) (λ q low. a.completed q) r k n (omega arith) one)
 
   -- ---- one answer
-  not_light_minuscule : (r : ℤ) → IsFirstHeavy d w r → IsMinuscule d w → ⊥
-  not_light_minuscule r h m = m r h.number h.heavy
+  no_large_pairing : (r : ℤ) → IsFirstLargePairing d w r → IsMinuscule d w → ⊥
+  no_large_pairing r h m = let s = m r h.number in let l = h.large in absurd (omega (arith, s, l))
 
   two : (x y : Result Module ModuleFault) → LoadsOrbit d eta w x → LoadsOrbit d eta w y → x ≢ Err NoMemory → y ≢ Err NoMemory → x ≡ y
   two (Err NoMemory) y a b n m = absurd (n refl)
@@ -119,27 +91,27 @@ module _ (d : RootDatum) (loaded : IsLoaded d) (eta : Signs) (w : Vector) where
   two (Err (Heavy p)) (Err NoMemory) a b n m = absurd (m refl)
   two (Err (Huge r k)) (Err NoMemory) a b n m = absurd (m refl)
   two (Ok u) (Ok v) a b n m = ap Ok (one_orbit_module u v a.1 b.1)
-  two (Ok u) (Err (NotMinuscule r)) a b n m = absurd (not_light_minuscule r b a.0)
+  two (Ok u) (Err (NotMinuscule r)) a b n m = absurd (no_large_pairing r b a.0)
   two (Ok u) (Err (Wide p)) a b n m = absurd (not_wide d w p u.weights b.1 b.2 a.1.weights a.2.few)
   two (Ok u) (Err (Heavy p)) a b n m = absurd (not_light d w p u.weights b.1 a.1.weights a.2)
   two (Ok u) (Err (Huge r k)) a b n m = absurd (huge_small r k u b.1 a.1 a.3)
-  two (Err (NotMinuscule r)) (Ok v) a b n m = absurd (not_light_minuscule r a b.0)
-  two (Err (NotMinuscule r)) (Err (NotMinuscule s)) a b n m = ap (λ (t : ℤ). Err (NotMinuscule t)) (one_heavy d w r s a b)
-  two (Err (NotMinuscule r)) (Err (Wide p)) a b n m = absurd (not_light_minuscule r a b.0)
-  two (Err (NotMinuscule r)) (Err (Heavy p)) a b n m = absurd (not_light_minuscule r a b.0)
-  two (Err (NotMinuscule r)) (Err (Huge s k)) a b n m = absurd (not_light_minuscule r a b.0)
+  two (Err (NotMinuscule r)) (Ok v) a b n m = absurd (no_large_pairing r a b.0)
+  two (Err (NotMinuscule r)) (Err (NotMinuscule s)) a b n m = ap (λ (t : ℤ). Err (NotMinuscule t)) (one_large d w r s a b)
+  two (Err (NotMinuscule r)) (Err (Wide p)) a b n m = absurd (no_large_pairing r a b.0)
+  two (Err (NotMinuscule r)) (Err (Heavy p)) a b n m = absurd (no_large_pairing r a b.0)
+  two (Err (NotMinuscule r)) (Err (Huge s k)) a b n m = absurd (no_large_pairing r a b.0)
   two (Err (Wide p)) (Ok v) a b n m = absurd (not_wide d w p v.weights a.1 a.2 b.1.weights b.2.few)
-  two (Err (Wide p)) (Err (NotMinuscule s)) a b n m = absurd (not_light_minuscule s b a.0)
+  two (Err (Wide p)) (Err (NotMinuscule s)) a b n m = absurd (no_large_pairing s b a.0)
   two (Err (Wide p)) (Err (Wide q)) a b n m = ap (λ (t : ℕ). Err (Wide t)) (one_size d w p q a.2 b.2)
   two (Err (Wide p)) (Err (Heavy q)) a b n m = absurd (not_wide d w p b.1.weights a.1 a.2 b.1.orbit b.1.few)
   two (Err (Wide p)) (Err (Huge s k)) a b n m = absurd (not_wide d w p b.1.partial.weights a.1 a.2 b.1.weights b.1.light.few)
   two (Err (Heavy p)) (Ok v) a b n m = absurd (not_light d w p v.weights a.1 b.1.weights b.2)
-  two (Err (Heavy p)) (Err (NotMinuscule s)) a b n m = absurd (not_light_minuscule s b a.0)
+  two (Err (Heavy p)) (Err (NotMinuscule s)) a b n m = absurd (no_large_pairing s b a.0)
   two (Err (Heavy p)) (Err (Wide q)) a b n m = absurd (not_wide d w q a.1.weights b.1 b.2 a.1.orbit a.1.few)
   two (Err (Heavy p)) (Err (Heavy q)) a b n m = ap (λ (t : ℕ). Err (Heavy t)) (one_heavy_weight d w p q a.1 b.1)
   two (Err (Heavy p)) (Err (Huge s k)) a b n m = absurd (not_light d w p b.1.partial.weights a.1 b.1.weights b.1.light)
   two (Err (Huge r k)) (Ok v) a b n m = absurd (huge_small r k v a.1 b.1 b.3)
-  two (Err (Huge r k)) (Err (NotMinuscule s)) a b n m = absurd (not_light_minuscule s b a.0)
+  two (Err (Huge r k)) (Err (NotMinuscule s)) a b n m = absurd (no_large_pairing s b a.0)
   two (Err (Huge r k)) (Err (Wide q)) a b n m = absurd (not_wide d w q a.1.partial.weights b.1 b.2 a.1.weights a.1.light.few)
   two (Err (Huge r k)) (Err (Heavy q)) a b n m = absurd (not_light d w q a.1.partial.weights b.1 a.1.weights a.1.light)
   two (Err (Huge r k)) (Err (Huge s j)) a b n m = let e = one_huge r s k j a.1 b.1 in ap (λ (t : ℤ). Err (Huge t k)) e.0 ∙ ap (λ (t : ℕ). Err (Huge s t)) e.1

@@ -1,18 +1,21 @@
--- What the growth of an orbit says of its size and its weights.
-use Rattle.std.proofs.Common.{◌≡◌, ◌-◌, ◌≤◌, List, [], length, get_or, refl, sym, subst, arith, unsigned_abs, Err}
+-- The weights of an orbit, and why its module is not completed.
+use Rattle.std.proofs.Common.{◌-◌, ◌≤◌, List, [], length, get_or, subst, arith, unsigned_abs, Err}
 use Rattle.std.specs.List.{All}
 use Rattle.lie_datum.specs.Vectors.{Vector}
 use Rattle.lie_datum.specs.RootDatum.{IsWithin}
 use Rattle.lie_datum.specs.RootList.{RootDatum}
-use Rattle.lie_weight.specs.Orbits.{IsReached, IsOrbit, IsOrbitSize, IsMinuscule}
-use Rattle.lie_weight.specs.Growth.{IsGrowing, IsGrown, first_weight}
-use Rattle.lie_weight.specs.OrbitFaults.{IsHeavyWeight, AreLight, LoadsOrbit}
+use Rattle.lie_datum.proofs.VectorLemmas.{entry_within}
+use Rattle.lie_orbit.specs.Weights.{IsMinuscule}
+use Rattle.lie_orbit.specs.Orbits.{IsOrbit, IsOrbitFault, IsNear}
+use Rattle.lie_orbit.specs.declared.faults.OrbitFault.{OrbitFault}
+use Rattle.lie_orbit.specs.declared.faults.OrbitFault.TheVariants as orbit
+use Rattle.lie_orbit.proofs.WeightLemmas.{from_entries}
+use Rattle.lie_weight.specs.OrbitFaults.{IsHeavyWeight, AreLight, LoadsOrbit, module_fault}
 use Rattle.lie_weight.specs.Completion.{IsConjugateFault}
 use Rattle.lie_weight.specs.declared.faults.ModuleFault.{ModuleFault}
 use Rattle.lie_weight.specs.declared.faults.ModuleFault.TheVariants.{NoMemory, NotMinuscule, Wide, Heavy, Huge}
 use Rattle.lie_const.specs.Modules.{Module}
 use Rattle.lie_const.specs.Signs.{Signs}
-use Rattle.lie_weight.proofs.GrowthLemmas.{grown_whole}
 
 -- weights that are small are not heavy
 light_weight : (x : Vector) → IsWithin 1000000 x → ¬ IsHeavyWeight x
@@ -24,16 +27,9 @@ are_light ws few small = record {
   light = λ a h. light_weight (get_or ws (a - 1) []) (small (a - 1) [] (let p = h.0 in let q = h.1 in omega (arith, p, q))) h.2;
 }
 
--- the size of an orbit that has grown
-pub orbit_size : (d : RootDatum) (w : Vector) (ws : List Vector) → IsGrowing d ws → first_weight ws ≡ w → IsGrown d ws → IsOrbitSize d w (length ws)
-orbit_size d w ws g first grown = record {
-  ws = ws;
-  count = refl;
-  few = g.short;
-  distinct = g.distinct;
-  reached = λ x c. subst (λ t. IsReached d t x) first (g.reached x c);
-  whole = λ room x r. grown_whole d ws g (grown room) x (subst (λ t. IsReached d t x) (sym first) r);
-}
+-- weights near one with coordinates within 100 are small
+pub near_small : (w : Vector) (ws : List Vector) → IsWithin 100 w → All (IsNear w 102400) ws → All (IsWithin 1000000) ws
+near_small w ws small near k z l = from_entries 1000000 (get_or ws k z) (λ j. (let a = near k z l j in let b = entry_within 100 w j small in omega (arith, a, b)))
 
 -- why the module of an orbit is not completed
 pub fault_loads : (d : RootDatum) (eta : Signs) (w : Vector) (v : Module) (e : ModuleFault) → IsMinuscule d w → IsOrbit d w v.weights → AreLight v.weights → IsConjugateFault d eta v e → LoadsOrbit d eta w (Err e)
@@ -42,3 +38,8 @@ fault_loads d eta w v (NotMinuscule r) m o l h = absurd h
 fault_loads d eta w v (Wide n) m o l h = absurd h
 fault_loads d eta w v (Heavy a) m o l h = absurd h
 fault_loads d eta w v (Huge r k) m o l h = (m, record { partial = v; weights = o; light = l; steps = h.0; completed = h.1; first = h.2 })
+
+-- why the orbit is not listed
+pub unlisted_loads : (d : RootDatum) (eta : Signs) (w : Vector) (f : OrbitFault) → IsMinuscule d w → IsOrbitFault d w f → LoadsOrbit d eta w (Err (module_fault f))
+unlisted_loads d eta w orbit.NoMemory m h = tt
+unlisted_loads d eta w orbit.TooMany m h = (m, omega arith, h)

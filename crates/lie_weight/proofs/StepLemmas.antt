@@ -1,20 +1,18 @@
 -- Modules in which simple roots step: their root elements, and the factors that conjugate.
-use Rattle.std.proofs.Common.{◌≡◌, ℕ, zero, suc, ◌+◌, ◌-◌, ◌<◌, ◌≤◌, ℤ, pos, negsuc, neg_ℤ, ◌+ℤ◌, ◌*ℤ◌, nat_abs, unsigned_abs, List, [], ◌∷◌, ◌++◌, length, get_or, map, refl, sym, ap, subst, ◌∙◌, arith, ◌⊎◌, inl, inr, ⊎_elim, Bool, true, false, cond, eqb, Result, Ok, Err, IfOk}
-use Rattle.std.proofs.lemmas.Int.{ints, unsigned_abs-mul}
+use Rattle.std.proofs.Common.{◌≡◌, ℕ, zero, suc, ◌+◌, ◌-◌, ◌<◌, ◌≤◌, ℤ, pos, negsuc, neg_ℤ, ◌+ℤ◌, ◌*ℤ◌, nat_abs, List, [], ◌∷◌, ◌++◌, length, get_or, refl, sym, ap, subst, ◌∙◌, arith, ◌⊎◌, inl, inr, ⊎_elim, Bool, true, false, cond, eqb, Result, Ok, Err, IfOk}
+use Rattle.std.proofs.lemmas.Int.{ints}
 use Rattle.std.proofs.lemmas.List.{get_or_default, get_or_append_left, get_or-append-add}
 use Rattle.lie_ring.specs.Rings.{sum_below}
 use Rattle.lie_ring.specs.Integers.{integers}
 use Rattle.lie_ring.specs.Powers.{power}
 use Rattle.lie_ring.specs.Matrices.{Matrix, table, entry, product, zero_matrix}
 use Rattle.lie_ring.specs.MatrixLemmas.{entry-table, table-same}
-use Rattle.lie_datum.specs.Vectors.{Vector, minus, entry as entry_at}
+use Rattle.lie_datum.specs.Vectors.{Vector}
 use Rattle.lie_datum.specs.Numbers.{number_at}
-use Rattle.lie_datum.specs.RootDatum.{rank, vector, opposite, IsSimpleIndex, IsWithin}
+use Rattle.lie_datum.specs.RootDatum.{rank, IsSimpleIndex}
 use Rattle.lie_datum.proofs.Entries.{within_or_past}
-use Rattle.lie_datum.proofs.Linear.{pairing-times}
 use Rattle.lie_datum.proofs.SignedRoots.{opposite_number}
-use Rattle.lie_datum.proofs.VectorLemmas.{entry-combination, entry_within}
-use Rattle.lie_datum.specs.RootList.{RootDatum, root_of, IsNumber, IsLoaded}
+use Rattle.lie_datum.specs.RootList.{RootDatum, IsNumber, IsLoaded}
 use Rattle.lie_const.specs.Modules.{Module, dimension, divided_powers, divided_power, top, root_element, root_element_entry, weyl_element, weyl_inverse}
 use Rattle.lie_weight.specs.declared.factors.Factors.{Factors}
 use Rattle.lie_weight.specs.OrbitModules.{step_entry, step_matrix, StepsBy}
@@ -22,7 +20,7 @@ use Rattle.lie_weight.specs.Conjugation.{absolute_element, absolute_weyl}
 use Rattle.lie_weight.specs.Factors.{IsOfSize, IsNatural, IsStepping, one_plus, one_plus_entry, sandwich, AreFactorsOf, AreFactors, AreModuleFactors}
 use Rattle.lie_weight.specs.Kept.{ArePowers, IsSquare}
 use Rattle.lie_weight.specs.Completion.{Keeps, with_powers, IsSingle, IsStepped, WritesSteps, AreAllFactors}
-use Rattle.lie_weight.proofs.WeightLemmas.{from_entries, simple_some, simple_is, simple_number, vector-simple, simple_small}
+use Rattle.lie_orbit.proofs.WeightLemmas.{simple_some, simple_number}
 use Rattle.lie_weight.proofs.DraftLemmas.{past_end, single_zero, number_cases, powers_other, first_same, written_single}
 
 -- ---- the matrix of the steps by a root
@@ -165,19 +163,6 @@ module _ (d : RootDatum) (v : Module) (s : IsSingle d v) (r : ℤ) (number : IsN
 
 -- ---- the roots of a simple index
 module _ (d : RootDatum) (loaded : IsLoaded d) where
-  pub opposite_within : (n : ℕ) (r : ℤ) → IsNumber d r → IsWithin n (vector d.base (root_of d r)) → IsWithin n (vector d.base (root_of d (neg_ℤ r)))
-  opposite_within n r number h =
-      let c = (root_of d r).coeffs in
-      let vs = d.base.roots in
-      subst (λ t. IsWithin n (vector d.base t)) (sym (opposite_number d r number).1)
-      (from_entries n (vector d.base (opposite (root_of d r))) (λ k.
-      (let col : Vector = map (λ v. entry_at v k) vs in
-      let e : entry_at (vector d.base (opposite (root_of d r))) k ≡ negsuc 0 *ℤ entry_at (vector d.base (root_of d r)) k =
-      entry-combination (minus c) vs k ∙ pairing-times (negsuc 0) c col ∙ ap (λ t. negsuc 0 *ℤ t) (sym (entry-combination c vs k)) in
-      let b = entry_within n (vector d.base (root_of d r)) k h in
-      let a = unsigned_abs-mul (negsuc 0) (entry_at (vector d.base (root_of d r)) k) in
-      subst (λ t. unsigned_abs t ≤ n) (sym e) (omega (arith, a, b)))))
-
   pub negative_some : (i : ℕ) → IsSimpleIndex d.base i → IsNumber d (neg_ℤ (pos i))
   negative_some i s = (opposite_number d (pos i) (simple_some d loaded i s)).0
 
@@ -190,9 +175,6 @@ module _ (d : RootDatum) (loaded : IsLoaded d) where
 
   pub place_index : (i : ℕ) → i < rank d.base → IsSimpleIndex d.base (i + 1)
   place_index i l = (omega arith, omega (arith, l))
-
-  pub simple_within : (i : ℕ) → IsSimpleIndex d.base i → IsWithin 100 (vector d.base (root_of d (pos i)))
-  simple_within i s = subst (IsWithin 100) (sym (ap (vector d.base) (simple_is d loaded i s) ∙ vector-simple d loaded i s)) (simple_small d loaded i s)
 
 -- ---- what writing says
 pub keeps_from : (n : ℕ) (M m : Matrix ℤ) (Ms : List (Matrix ℤ)) → m ≡ M → IsOfSize n M → Keeps m.height m Ms → Keeps n M Ms

@@ -1,72 +1,24 @@
 -- The module of an orbit is determined by its weights: the completed matrices follow from the steps.
 use Rattle.std.proofs.Common.{◌≡◌, ◌≢◌, ℕ, zero, suc, ◌*◌, ◌<◌, ◌≤◌, ℤ, pos, negsuc, neg_ℤ, List, [], ◌∷◌, length, get_or, refl, sym, ap, subst, ◌∙◌, arith, ◌⊎◌, inl, inr, ⊎_elim, unsigned_abs}
-use Rattle.std.specs.List.{AllByRecursion}
-use Rattle.std.specs.List.Sorted.{IsStrictlySortedBy}
-use Rattle.std.specs.declared.cmp.Ordering.TheVariants.{Less, Equal}
-use Rattle.std.proofs.lemmas.Cmp.{tied_itself}
 use Rattle.lie_ring.specs.Integers.{integers}
 use Rattle.lie_ring.specs.Powers.{power}
 use Rattle.lie_ring.specs.Matrices.{Matrix, product, scaled, zero_matrix}
-use Rattle.lie_base.proofs.Members.{In, here, there}
 use Rattle.lie_datum.specs.Vectors.{Vector}
 use Rattle.lie_datum.specs.Numbers.{place, number_at}
 use Rattle.lie_datum.specs.RootDatum.{rank, IsSimpleIndex}
 use Rattle.lie_datum.specs.RootList.{RootDatum, IsNumber, IsLoaded}
 use Rattle.lie_datum.proofs.Entries.{within_or_past}
-use Rattle.lie_datum.proofs.ClosureLemmas.{in_from_contains, contains_from_in}
 use Rattle.lie_datum.proofs.NumberLemmas.{numbered_at}
 use Rattle.lie_const.specs.Modules.{Module, IsModule, dimension, divided_powers, divided_power, top, weyl_element, weyl_inverse}
 use Rattle.lie_const.specs.Signs.{Signs}
-use Rattle.lie_weight.specs.Orbits.{weight_cmp, IsOrbit}
 use Rattle.lie_weight.specs.OrbitModules.{step_matrix, StepsBy, HasSteps}
 use Rattle.lie_mat.specs.Wide.{IsHugeMatrix}
 use Rattle.lie_weight.specs.Conjugation.{absolute_height, IsLowering, conjugated, IsCompletedBelow, absolute_weyl, IsHuge}
 use Rattle.lie_weight.specs.Factors.{work_on, one_plus, sandwich}
-use Rattle.lie_weight.proofs.WeightLemmas.{simple_some}
-use Rattle.lie_weight.proofs.OrderLemmas.{weight_total}
+use Rattle.lie_orbit.proofs.WeightLemmas.{simple_some}
 use Rattle.lie_weight.proofs.StepLemmas.{negative_some, weyl_is, inverse_is, absolute_is}
 use Rattle.lie_weight.proofs.CompletionLemmas.{lowered_below}
 use Rattle.lie_weight.proofs.LoweringLemmas.{lowering_exists}
-
--- ---- one list of weights
-module _ (d : RootDatum) where
-  same_order : (x : Vector) → weight_cmp d x x ≡ Equal
-  same_order x = tied_itself (weight_total d) x
-
-  same_less : (x y : Vector) → weight_cmp d x y ≡ Less → weight_cmp d y x ≡ Less → ⊥
-  same_less x y e f = let g = (weight_total d).trans x y x e f in let h = same_order x in cc
-
-  -- two lists in order with the same members are one
-  same_list : (xs ys : List Vector) → IsStrictlySortedBy (weight_cmp d) xs → IsStrictlySortedBy (weight_cmp d) ys → ((x : Vector) → In x xs → In x ys) → ((x : Vector) → In x ys → In x xs) → xs ≡ ys
-  unfolding IsStrictlySortedBy
-  same_list [] [] s t h g = refl
-  same_list [] (y ∷ ys) s t h g = elim (g y (here refl)) [ ]
-  same_list (x ∷ xs) [] s t h g = elim (h x (here refl)) [ ]
-  same_list (x ∷ xs) (y ∷ ys) s t h g =
-      let e = heads (h x (here refl)) (g y (here refl)) in
-      let f = same_list xs ys s.1 t.1 (λ r p. tail r ys (h r (there p)) (λ q. above x xs s.0 r p (q ∙ sym e))) (λ r p. tail r xs (g r (there p)) (λ q. above y ys t.0 r p (q ∙ e))) in
-      cc
-    where
-      less_in : (z : Vector) (zs : List Vector) → AllByRecursion (λ w. weight_cmp d z w ≡ Less) zs → (r : Vector) → In r zs → weight_cmp d z r ≡ Less
-      less_in z [] a r p = elim p [ ]
-      less_in z (w ∷ zs) a r (here e) = ap (weight_cmp d z) e ∙ a.0
-      less_in z (w ∷ zs) a r (there p) = less_in z zs a.1 r p
-
-      above : (z : Vector) (zs : List Vector) → AllByRecursion (λ w. weight_cmp d z w ≡ Less) zs → (r : Vector) → In r zs → r ≡ z → ⊥
-      above z zs a r p e = let l = less_in z zs a r p in let q = same_order z in let k = ap (weight_cmp d z) e in cc
-
-      tail : (r : Vector) {w : Vector} (zs : List Vector) → In r (w ∷ zs) → (r ≡ w → ⊥) → In r zs
-      tail r zs (here e) n = absurd (n e)
-      tail r zs (there p) n = p
-
-      heads : In x (y ∷ ys) → In y (x ∷ xs) → x ≡ y
-      heads (here e) q = e
-      heads (there p) (here e) = sym e
-      heads (there p) (there q) = absurd (same_less x y (less_in x xs s.0 y q) (less_in y ys t.0 x p))
-
-  pub one_orbit : (w : Vector) (xs ys : List Vector) → IsOrbit d w xs → IsOrbit d w ys → xs ≡ ys
-  one_orbit w xs ys p q = same_list xs ys p.sorted q.sorted
-      (λ x m. in_from_contains ys x ((q.members x).1 ((p.members x).0 (contains_from_in xs x m)))) (λ x m. in_from_contains xs x ((p.members x).1 ((q.members x).0 (contains_from_in ys x m))))
 
 -- ---- a simple root keeps one matrix at most
 steps_single : (d : RootDatum) (v : Module) (q : ℤ) → IsModule d v → IsNumber d q → StepsBy d v q → top v q ≤ 1

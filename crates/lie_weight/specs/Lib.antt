@@ -2,9 +2,6 @@ pub mod Kept
 pub mod AdjointParts
 pub mod Terms
 pub mod Laws
-pub mod Orbits
-pub mod Growth
-pub mod Levels
 pub mod Conjugation
 pub mod OrbitModules
 pub mod OrbitFaults

@@ -8,7 +8,10 @@ use Rattle.lie_const.specs.Modules.{Module}
 use Rattle.lie_const.specs.Signs.{Signs}
 use Rattle.lie_weight.specs.declared.faults.ModuleFault.{ModuleFault}
 use Rattle.lie_weight.specs.declared.faults.ModuleFault.TheVariants.{NoMemory, NotMinuscule, Wide, Heavy, Huge}
-use Rattle.lie_weight.specs.Orbits.{IsMinuscule, IsFirstHeavy, IsOrbit, IsOrbitSize}
+use Rattle.lie_orbit.specs.Weights.{IsMinuscule, IsFirstLargePairing}
+use Rattle.lie_orbit.specs.Orbits.{IsOrbit, IsOrbitSize}
+use Rattle.lie_orbit.specs.declared.faults.OrbitFault.{OrbitFault}
+use Rattle.lie_orbit.specs.declared.faults.OrbitFault.TheVariants as orbit
 use Rattle.lie_weight.specs.Conjugation.{absolute_height, IsCompletedBelow, IsHuge, IsFirstHuge}
 use Rattle.lie_weight.specs.OrbitModules.{HasSteps, IsOrbitModule}
 
@@ -42,11 +45,16 @@ pub record IsFirstHugeConjugate (d : RootDatum) (eta : Signs) (w : Vector) (r : 
   pub completed : IsCompletedBelow d eta partial (absolute_height d r)
   pub first : IsFirstHuge d partial r k
 
+-- the fault of a module whose orbit is not listed
+abbrev pub module_fault : OrbitFault → ModuleFault
+module_fault orbit.NoMemory = NoMemory
+module_fault orbit.TooMany = Wide 1025
+
 -- what `Module::orbit` answers for a weight: the module of its orbit, or the first fault
 abbrev pub LoadsOrbit : RootDatum → Signs → Vector → Result Module ModuleFault → Type 0
 LoadsOrbit d eta w (Ok v) = IsMinuscule d w × IsOrbitModule d eta w v × AreLight v.weights × ((r : ℤ) (k : ℕ) → ¬ IsHuge d v r k)
 LoadsOrbit d eta w (Err NoMemory) = ⊤
-LoadsOrbit d eta w (Err (NotMinuscule r)) = IsFirstHeavy d w r
+LoadsOrbit d eta w (Err (NotMinuscule r)) = IsFirstLargePairing d w r
 LoadsOrbit d eta w (Err (Wide n)) = IsMinuscule d w × (300 < n) × IsOrbitSize d w n
 LoadsOrbit d eta w (Err (Heavy a)) = IsMinuscule d w × IsFirstHeavyWeight d w a
 LoadsOrbit d eta w (Err (Huge r k)) = IsMinuscule d w × IsFirstHugeConjugate d eta w r k

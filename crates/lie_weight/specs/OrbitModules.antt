@@ -14,13 +14,14 @@ use Rattle.lie_datum.specs.RootList.{RootDatum, root_of}
 use Rattle.lie_const.specs.StructureConstants.{same_vector}
 use Rattle.lie_const.specs.Modules.{Module, IsModule, dimension, divided_power}
 use Rattle.lie_const.specs.Signs.{Signs}
-use Rattle.lie_weight.specs.Orbits.{weight_pairing, IsOrbit}
+use Rattle.lie_orbit.specs.Weights.{coroot_pairing}
+use Rattle.lie_orbit.specs.Orbits.{IsOrbit}
 use Rattle.lie_weight.specs.Conjugation.{IsCompleted}
 
 -- 1 where the weight at j steps by r to the weight at i, and 0 elsewhere
 abbrev pub step_entry : RootDatum → List Vector → ℤ → ℕ → ℕ → ℤ
 step_entry d ws r i j =
-    cond (int_eq (weight_pairing d (slice_index_or ws j []) r) (negsuc 0) && same_vector (slice_index_or ws i []) (plus (slice_index_or ws j []) (vector d.base (root_of d r))))
+    cond (int_eq (coroot_pairing d (slice_index_or ws j []) r) (negsuc 0) && same_vector (slice_index_or ws i []) (plus (slice_index_or ws j []) (vector d.base (root_of d r))))
     (pos 1) (pos 0)
 
 -- the matrix of the steps by r

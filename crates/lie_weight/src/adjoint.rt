@@ -89,7 +89,7 @@ fn weights(alloc: Global, datum: &Datum) -> Result<Vec<Vector>, AllocError>
 }
 
 /// -<r, a_i^>, which is what the reflection s_i adds to the i-th coefficient of r.
-pub fn negated_pairing(datum: &Datum, r: RootId, i: usize) -> i128
+fn negated_pairing(datum: &Datum, r: RootId, i: usize) -> i128
     requires number { IsNumber datum.now r }
     requires index { IsSimpleIndex datum.now.base i }
     ensures value { result ≡ neg_ℤ (pairing (vector datum.now.base (root_of datum.now r)) (simple_coroot datum.now.base i)) }

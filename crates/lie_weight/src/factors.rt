@@ -3,8 +3,7 @@
 ghost use Rattle.std.specs.Prelude.{◌≡◌, ◌≤◌, unsigned_abs, IfOk, OnOk};
 ghost use Rattle.lie_ring.specs.Integers.{integers};
 ghost use Rattle.lie_ring.specs.Matrices.{AllFit, product, scaled};
-ghost use Rattle.lie_mat.specs.Wide.{IsWideProduct};
-ghost use Rattle.lie_mat.specs.Wide.{IsHugeMatrix};
+ghost use Rattle.lie_mat.specs.Wide.{IsWideProduct, IsHugeMatrix};
 ghost use Rattle.lie_weight.specs.Factors.{IsOfSize, IsStepping, AreFactorsOf, AreFactors, sandwich, work_on};
 
 use crate::rules::{absolute, one_plus, scaled};

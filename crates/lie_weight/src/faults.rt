@@ -4,6 +4,7 @@ ghost use Rattle.std.specs.Prelude.{◌≡◌};
 ghost use Rattle.lie_weight.specs.declared.faults.ModuleFault.TheVariants.{NoMemory};
 
 use lie_datum::RootId;
+use lie_orbit::OrbitFault;
 use std::alloc::{AllocError, AllocFailed};
 use thiserror::Error;
 
@@ -39,5 +40,18 @@ impl<T: Drop> From<AllocFailed<T>> for ModuleFault {
 
     fn from(_e: AllocFailed<T>) -> ModuleFault {
         ModuleFault::NoMemory
+    }
+}
+
+impl From<OrbitFault> for ModuleFault {
+    ghost use Rattle.lie_weight.specs.OrbitFaults.{module_fault};
+
+    ghost from_gives = { λ f e. e ≡ module_fault f };
+
+    fn from(f: OrbitFault) -> ModuleFault {
+        match f {
+            OrbitFault::NoMemory => ModuleFault::NoMemory,
+            OrbitFault::TooMany => ModuleFault::Wide(1025),
+        }
     }
 }

@@ -4,27 +4,23 @@
 //! `specs/Modules.antt`. `Module::adjoint` makes the adjoint module of lie_const's `specs/Adjoint.antt`, and
 //! `Module::orbit` that of the orbit of a minuscule weight: `specs/OrbitModules.antt` has the steps of the simple roots,
 //! `specs/Conjugation.antt` the matrices of the other roots, and `specs/OrbitFaults.antt` when there is no module.
-//! `specs/Kept.antt` is how a module is kept. The crate stands on `lie_const`, `lie_mat`, `lie_datum`, `lie_ring`,
-//! `lie_base`, `indexmap` and `thiserror`.
+//! `specs/Kept.antt` is how a module is kept. The crate stands on `lie_const`, `lie_mat`, `lie_ring`, `lie_orbit`,
+//! `lie_datum`, `lie_base` and `thiserror`.
 #![tactic(auto)]
 
 mod adjoint;
 mod completion;
 mod factors;
 mod faults;
-mod growth;
 mod laws;
-mod levels;
-mod minuscule;
 mod modules;
 mod orbit;
-mod pairings;
 mod powers;
 mod rules;
 mod stepped;
 mod steps;
 
-pub use adjoint::{negated_pairing, place_in_basis};
+pub use adjoint::place_in_basis;
 pub use faults::ModuleFault;
 pub use laws::{adjoint_is_small, one_orbit_answer};
 pub use modules::Module;

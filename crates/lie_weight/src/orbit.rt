@@ -1,20 +1,17 @@
 //! The module of the orbit of a minuscule weight.
 
-ghost use Rattle.std.specs.Prelude.{◌≤◌, length};
 ghost use Rattle.lie_datum.specs.RootDatum.{IsWithin};
 ghost use Rattle.lie_const.specs.Signs.{IsSignTable, eta_of};
-ghost use Rattle.lie_weight.specs.Orbits.{IsMinuscule};
+ghost use Rattle.lie_orbit.specs.Weights.{IsMinuscule};
 ghost use Rattle.lie_weight.specs.OrbitFaults.{LoadsOrbit};
 
 use crate::completion::complete;
 use crate::faults::ModuleFault;
-use crate::growth::grown;
-use crate::levels::in_order;
-use crate::minuscule::first_heavy;
 use crate::modules::Module;
 use crate::stepped::{all_factors, stepped};
 use lie_const::Signs;
 use lie_datum::{Datum, Vector};
+use lie_orbit::{first_large_pairing, orbit};
 use std::alloc::Global;
 
 /// An orbit of more weights makes no module.
@@ -35,7 +32,7 @@ impl Module {
         requires signs { IsSignTable datum.now signs.now }
         ensures { LoadsOrbit datum.now (eta_of signs.now) v.now result }
     {
-        if let Some(r) = first_heavy(datum, v) {
+        if let Some(r) = first_large_pairing(datum, v) {
             return Err(ModuleFault::NotMinuscule(r));
         }
         Module::minuscule(alloc, datum, signs, v)
@@ -49,16 +46,15 @@ impl Module {
         v: &Vector,
     ) -> Result<Module, ModuleFault>
         requires v { IsWithin 100 v.now }
-        requires light { IsMinuscule datum.now v.now }
+        requires minuscule { IsMinuscule datum.now v.now }
         requires signs { IsSignTable datum.now signs.now }
         ensures { LoadsOrbit datum.now (eta_of signs.now) v.now result }
     {
-        let orbit = grown(alloc, datum, v)?;
-        let count = orbit.len();
+        let weights = orbit(alloc, datum, v)?;
+        let count = weights.len();
         if count > LIMIT {
             return Err(ModuleFault::Wide(count as u64));
         }
-        let weights = in_order(alloc, datum, orbit.as_slice())?;
         let mut space = stepped(alloc, datum, weights)?;
         let factors = all_factors(alloc, datum, &space)?;
         match complete(alloc, datum, signs, &factors, &mut space) {

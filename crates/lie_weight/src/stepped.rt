@@ -2,8 +2,8 @@
 
 ghost use Rattle.std.specs.Prelude.{◌≡◌, ◌≤◌, ◌<◌, ◌+◌, pos, IfOk, length};
 ghost use Rattle.std.specs.List.{All};
-ghost use Rattle.lie_datum.specs.RootDatum.{rank, vector, IsSimpleIndex, IsWithin};
-ghost use Rattle.lie_datum.specs.RootList.{IsNumber, root_of};
+ghost use Rattle.lie_datum.specs.RootDatum.{rank, IsWithin};
+ghost use Rattle.lie_datum.specs.RootList.{IsNumber};
 ghost use Rattle.lie_const.specs.Modules.{dimension};
 ghost use Rattle.lie_weight.specs.Factors.{AreModuleFactors};
 ghost use Rattle.lie_weight.specs.Completion.{IsSingle, IsStepped, WritesSteps, AreAllFactors};
@@ -23,7 +23,6 @@ fn write_steps(
     root: RootId,
 ) -> Result<(), AllocError>
     requires number { IsNumber datum.now root }
-    requires near { IsWithin 100 (vector datum.now.base (root_of datum.now root)) }
     requires small { All (IsWithin 1000000) space.old.weights }
     requires some { 1 ≤ dimension space.old }
     requires few { dimension space.old ≤ 300 }

@@ -4,7 +4,7 @@ ghost use Rattle.std.specs.Prelude.{◌≡◌, ◌≤◌, negsuc, ◌&&◌, IfOk
 ghost use Rattle.std.specs.Ordering.{int_eq};
 ghost use Rattle.lie_datum.specs.Vectors.{plus};
 ghost use Rattle.lie_const.specs.StructureConstants.{same_vector};
-ghost use Rattle.lie_weight.specs.Orbits.{weight_pairing};
+ghost use Rattle.lie_orbit.specs.Weights.{coroot_pairing};
 ghost use Rattle.std.specs.List.{All};
 ghost use Rattle.lie_ring.specs.Integers.{integers};
 ghost use Rattle.lie_ring.specs.Matrices.{AllFit};
@@ -12,11 +12,10 @@ ghost use Rattle.lie_datum.specs.RootDatum.{IsWithin, vector};
 ghost use Rattle.lie_datum.specs.RootList.{IsNumber, root_of};
 ghost use Rattle.lie_weight.specs.OrbitModules.{step_matrix};
 
-use crate::growth::moved;
-use crate::pairings::pairing;
 use crate::rules::built;
 use lie_datum::{Datum, RootId, Vector};
 use lie_mat::{Entries, Mat};
+use lie_orbit::{less_multiple, pairing};
 use lie_ring::{Ints, RingStop};
 use std::alloc::{AllocError, Global};
 
@@ -28,7 +27,6 @@ struct Steps<'a> {
     weights: &'a [Vector],
     root: RootId,
     ghost number: { IsNumber datum.now root },
-    ghost near: { IsWithin 100 (vector datum.now.base (root_of datum.now root)) },
     ghost small: { All (IsWithin 1000000) weights.now },
 }
 
@@ -69,12 +67,11 @@ impl<'a> Entries for Steps<'a> {
 /// Whether the root steps from one weight to another.
 fn is_step(datum: &Datum, root: RootId, from: &Vector, to: &Vector) -> bool
     requires number { IsNumber datum.now root }
-    requires near { IsWithin 100 (vector datum.now.base (root_of datum.now root)) }
     requires small { IsWithin 1000000 from.now }
-    ensures { result ≡ (int_eq (weight_pairing datum.now from.now root) (negsuc 0) && same_vector to.now (plus from.now (vector datum.now.base (root_of datum.now root)))) }
+    ensures { result ≡ (int_eq (coroot_pairing datum.now from.now root) (negsuc 0) && same_vector to.now (plus from.now (vector datum.now.base (root_of datum.now root)))) }
 {
     datum.loaded();
-    pairing(from, datum.coroot(root)) == -1 && *to == moved(from, -1, datum.root(root))
+    pairing(from, datum.coroot(root)) == -1 && *to == less_multiple(from, -1, datum.root(root))
 }
 
 /// The matrix of the steps by a root, simple or the negative of a simple root.
@@ -85,7 +82,6 @@ pub(crate) fn step_matrix(
     root: RootId,
 ) -> Result<Mat<Ints>, AllocError>
     requires number { IsNumber datum.now root }
-    requires near { IsWithin 100 (vector datum.now.base (root_of datum.now root)) }
     requires small { All (IsWithin 1000000) weights.now }
     requires few { length weights.now ≤ 300 }
     ensures value { IfOk result (λ m. m ≡ step_matrix datum.now weights.now root) }

@@ -3,14 +3,11 @@ use Rattle.std.proofs.Common.{◌≡◌, ℕ, zero, suc, ◌-◌, ◌+◌, ◌+�
 use Rattle.std.proofs.lemmas.List.{get_or_default, get_or-set_same, get_or-set_other}
 use Rattle.std.specs.List.{All}
 use Rattle.std.proofs.Math.ListN.{length-set, length-map, get_or-map}
-use Rattle.std.specs.Option.{IsSome, unwrap_or}
+use Rattle.std.specs.Option.{IsSome}
 use Rattle.std.proofs.lemmas.List.Elements.{All-from_get_or, All-set}
 use Rattle.lie_datum.specs.declared.root_pair.Root.{Root}
 use Rattle.lie_datum.specs.Vectors.{Vector, entry, times, combination}
 use Rattle.lie_datum.specs.RootDatum.{simple, IsSimpleIndex, IsRoot, rank, IsWithin}
-use Rattle.lie_datum.specs.Numbers.{number_at}
-use Rattle.lie_datum.specs.Laws.{SimplesFirst}
-use Rattle.lie_datum.proofs.NumberLemmas.{within, numbered_at, root_at}
 use Rattle.lie_datum.specs.RootList.{RootDatum, IsLoaded, IsNumber, root_of, NamesRoot}
 use Rattle.lie_datum.proofs.SignedRoots.{root_is, same_coeffs}
 use Rattle.lie_weyl.specs.Padding.{IsPadded}
@@ -32,28 +29,6 @@ module _ (d : RootDatum) (loaded : IsLoaded d) (r : Root) (root : IsRoot d.base 
   named_same v (Some j) k e h f =
       let same : j ≡ k = cc in
       same_coeffs d loaded (root_of d k) r (root_is d loaded k (subst (IsNumber d) same h.0)) root (subst (λ z. (root_of d z).coeffs ≡ v) same h.1 ∙ sym e)
-
--- ---- the simple roots stand first
--- the number at the place of a simple root
-pub record IsSimpleNumber (d : RootDatum) (i : ℕ) : Type 0 where
-  pub place : i - 1 < length d.positive
-  pub number : IsNumber d (number_at (length d.positive) (i - 1))
-  pub root : root_of d (number_at (length d.positive) (i - 1)) ≡ simple i
-
-pub simple_number : (d : RootDatum) → SimplesFirst d → (i : ℕ) → IsSimpleIndex d.base i → IsSimpleNumber d i
-simple_number d first zero s = absurd (omega (arith, s.0))
-simple_number d first (suc i) s =
-    let e = first (suc i) s in
-    let some : IsNumber d (pos (suc i)) = subst IsSome (sym e) refl in
-    let k : suc i - 1 ≡ i = omega arith in
-    let p = within d.positive i some in
-    let at = numbered_at d (suc i - 1) (omega (arith, p)) in
-    let none : Root = record { coeffs = []; co_coeffs = [] } in
-    record {
-      place = omega (arith, p);
-      number = at.number;
-      root = sym (at.root none) ∙ root_at d (pos (suc i)) none some ∙ ap (λ o. unwrap_or o none) e;
-    }
 
 -- ---- images one by one
 -- z is the number of the image of a_(j + 1)

@@ -6,6 +6,12 @@ use Rattle.lie_datum.specs.RootList.{RootDatum, IsLoaded}
 use Rattle.lie_weyl.specs.WeylElement.{moved, AreLetters, SameProduct, word_length}
 use Rattle.lie_weyl.specs.Descents.{IsLeastOf}
 
+-- words that move each simple root alike move all roots alike, so the images of the simple roots determine the element
+abbrev pub ImagesDetermineAction : Type 0
+ImagesDetermineAction =
+    (d : RootDatum) → IsLoaded d → (w v : List ℕ) → AreLetters d.base w → AreLetters d.base v →
+    ((i : ℕ) → IsSimpleIndex d.base i → moved d.base w (simple i) ≡ moved d.base v (simple i)) → SameProduct d w v
+
 -- w s_i is one longer than w where w keeps a_i positive, and one shorter where it makes a_i negative
 abbrev pub RightLengths : Type 0
 RightLengths =

@@ -11,7 +11,6 @@ ghost use Rattle.lie_datum.specs.RootList.{IsNumber, root_of, height};
 ghost use Rattle.lie_weyl.specs.WeylElement.{AreLetters};
 ghost use Rattle.lie_weyl.specs.Descents.{AreHeights, EndsAtRank, AreTurned, IsFirstNegative, IsLeastOf};
 
-use crate::simple::simple_root;
 use arrayvec::ArrayVec;
 use lie_datum::{Datum, RootId, Vector};
 
@@ -80,7 +79,7 @@ fn turned(datum: &Datum, heights: &Vector, i: usize) -> Vector
     let h = heights[i - 1];
     let mut turned = *heights;
     for k in 0..datum.l() {
-        let image = datum.reflect(i, simple_root(datum, k + 1));
+        let image = datum.reflect(i, datum.simple(k + 1));
         turned[k] += (i128::from(datum.height(image)) - 1) * h;
     }
     turned

@@ -1,7 +1,12 @@
 //! What follows from the definitions alone: laws of every loaded datum.
 
-ghost use Rattle.lie_weyl.specs.Laws.{RightLengths, LeftLengths, InverseLengths, ShortestWords, Exchange, GreedyIsLeast};
+ghost use Rattle.lie_weyl.specs.Laws.{RightLengths, LeftLengths, InverseLengths, ShortestWords, Exchange, GreedyIsLeast, ImagesDetermineAction};
 ghost use Rattle.lie_weyl.specs.Orders.{OrdersOfProducts};
+
+/// Words that move each simple root alike move all roots alike.
+pub fn images_determine_action()
+    ensures { ImagesDetermineAction }
+{}
 
 /// One simple factor more changes the length by one, up or down as the sign of the image of the
 /// simple root tells.

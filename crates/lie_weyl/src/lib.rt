@@ -10,11 +10,11 @@
 
 mod descents;
 mod laws;
-mod simple;
 mod weyl;
 
 pub use laws::{
-    exchange, greedy_is_least, inverse_lengths, one_factor_more, orders_of_products, shortest_words,
+    exchange, greedy_is_least, images_determine_action, inverse_lengths, one_factor_more,
+    orders_of_products, shortest_words,
 };
 pub use weyl::Weyl;
 

@@ -8,7 +8,6 @@ ghost use Rattle.lie_weyl.specs.WeylElement.{moved, AreLetters, Spells, IsElemen
 ghost use Rattle.lie_weyl.specs.Descents.{IsLeastOf};
 
 use crate::descents::{descents, heights};
-use crate::simple::simple_root;
 use arrayvec::ArrayVec;
 use lie_datum::{Datum, RootId, Vector, combination};
 use std::alloc::{AllocError, Global};
@@ -46,7 +45,7 @@ impl Weyl {
         let l = datum.l();
         let mut images = [RootId::at(0, 1); 8];
         for k in 0..l {
-            images[k] = simple_root(datum, k + 1);
+            images[k] = datum.simple(k + 1);
         }
         Weyl { l, images }
     }

@@ -10,7 +10,7 @@ use Rattle.lie_const.specs.Modules.{dimension, root_element_entry, weyl_element}
 use Rattle.lie_const.specs.Adjoint.{basis_place}
 use Rattle.lie_const.specs.Signs.{image}
 use Rattle.lie_weight.proofs.NumberOf.{number_of-root}
-use Rattle.lie_audit.specs.SignParts.{Lists, IsWithinList, row_value}
+use Rattle.lie_audit.specs.SignParts.{Lists, IsWithinList, row_value, entry_bound}
 use Rattle.lie_audit.proofs.EntrySums.{weyl-entry}
 use Rattle.lie_audit.proofs.ListLemmas.{lists-within, double-row}
 use Rattle.lie_audit.proofs.entries.weyl_entry.Goals as goal
@@ -39,7 +39,7 @@ returns-clause-value c =
     let image_is : image d i s ≡ c.reflect.result = number_of-root d c.loaded.ensures (reflected d.base i (root_of d s)).coeffs c.reflect.result c.reflect.ensures.number (ap (λ r. r.coeffs) c.reflect.ensures.root) in
     let up_is = c.simple-up.ensures.value in
     let down_is : down ≡ neg_ℤ (pos i) = c.opposite.ensures ∙ ap neg_ℤ up_is in
-    plain c.row_product.result 14904800000000 c.row_product.ensures.size (lit< tt)
+    plain c.row_product.result entry_bound c.row_product.ensures.size (lit< tt)
     ∙ c.row_product.ensures.value ∙ double-row v up down row.result col.result xs ys first second
     ∙ ap₂ (λ a b. sum_below integers n (λ p. root_element_entry integers v a (pos 1) row.result p *ℤ
     sum_below integers n (λ q. root_element_entry integers v b (negsuc 0) p q *ℤ root_element_entry integers v a (pos 1) q col.result))) up_is down_is
@@ -47,4 +47,4 @@ returns-clause-value c =
     ∙ ap₂ (entry (pos 0) (weyl_element integers v i)) (row.ensures.value ∙ ap (basis_place d) (sym image_is)) col.ensures.value
 
 pub returns-clause-size : goal.returns-clause-size
-returns-clause-size c = subst (λ z. unsigned_abs z ≤ 14904800000000) (sym (plain c.row_product.result 14904800000000 c.row_product.ensures.size (lit< tt))) c.row_product.ensures.size
+returns-clause-size c = subst (λ z. unsigned_abs z ≤ entry_bound) (sym (plain c.row_product.result entry_bound c.row_product.ensures.size (lit< tt))) c.row_product.ensures.size

@@ -7,7 +7,8 @@ use Rattle.lie_datum.specs.RootDatum.{IsWithin}
 use Rattle.lie_datum.specs.Numbers.{number_at}
 use Rattle.lie_datum.specs.RootList.{IsNumber}
 use Rattle.lie_datum.proofs.NumberLemmas.{numbered_at}
-use Rattle.lie_orbit.specs.Lowering.{coroot_pairing, IsHighRoot, IsFirstHigh}
+use Rattle.lie_orbit.specs.Weights.{coroot_pairing}
+use Rattle.lie_orbit.specs.Lowering.{IsHighRoot, IsFirstHigh}
 use Rattle.lie_orbit.proofs.WeightLemmas.{covector_within, none_more, none_all, high_first}
 use Rattle.lie_orbit.proofs.lowering.first_high.Goals as goal
 use Rattle.lie_orbit.proofs.lowering.first_high.Goals.{After-at-r, After-pairing}

@@ -1,7 +1,7 @@
 use Rattle.std.proofs.Common.{◌*◌, ◌^◌, ◌<◌, arith, subst, sym}
 use Rattle.lie_orbit.specs.Lowering.{low}
 use Rattle.lie_orbit.proofs.WeightLemmas.{within_more}
-use Rattle.lie_orbit.proofs.FallLemmas.{norm, IsOnTheWay, way_start, way_within, way_pairing, on_the_way, half_falls, low_small}
+use Rattle.lie_orbit.proofs.FallLemmas.{norm, IsOnTheWay, way_start, way_within, way_pairing, on_the_way, half_falls, low_minuscule}
 use Rattle.lie_orbit.proofs.lowering.lower.Goals as goal
 
 pub loop-r-init : goal.loop-r-init
@@ -34,8 +34,8 @@ loop-r-preserved c =
 pub returns-clause-lowers : goal.returns-clause-lowers
 returns-clause-lowers c = c.loop-r.invariant.leads c.loop-r.weight (low c.loop-r.weight c.in_default.ensures)
 
-pub returns-clause-small : goal.returns-clause-small
-returns-clause-small c = low_small c.args.datum.now c.loaded.ensures c.loop-r.weight c.in_default.ensures
+pub returns-clause-minuscule : goal.returns-clause-minuscule
+returns-clause-minuscule c = low_minuscule c.args.datum.now c.loaded.ensures c.loop-r.weight c.in_default.ensures
 
 pub returns-clause-near : goal.returns-clause-near
 returns-clause-near c = way_within c.args.datum.now c.loaded.ensures c.args.v.now c.loop-r.weight c.told-v c.requires c.loop-r.invariant

@@ -1,7 +1,8 @@
 use Rattle.std.proofs.Common.{◌≡◌, ◌^◌, ◌≤◌, pos, neg_ℤ, ◌≤ℤ◌, unsigned_abs, subst, sym, ap, ◌∙◌}
 use Rattle.lie_datum.specs.Vectors.{pairing, plus, times}
 use Rattle.lie_datum.specs.RootDatum.{IsWithin}
-use Rattle.lie_orbit.specs.Lowering.{coroot_pairing, IsHalf}
+use Rattle.lie_orbit.specs.Weights.{coroot_pairing}
+use Rattle.lie_orbit.specs.Lowering.{IsHalf}
 use Rattle.lie_orbit.proofs.ArithmeticLemmas.{half_of}
 use Rattle.lie_orbit.proofs.WeightLemmas.{covector_within, root_within}
 use Rattle.lie_orbit.proofs.lowering.lowered_by.Goals as goal

@@ -1,12 +1,11 @@
 use Rattle.std.proofs.Common.{◌≡◌, ◌≤◌, ◌+◌, pos, neg_ℤ, List, subst, sym, ap, ◌∙◌, arith}
 use Rattle.lie_datum.specs.Vectors.{Vector}
-use Rattle.lie_datum.specs.RootDatum.{IsWithin, vector}
-use Rattle.lie_datum.specs.RootList.{IsNumber, root_of}
+use Rattle.lie_datum.specs.RootList.{IsNumber}
 use Rattle.lie_const.specs.Modules.{dimension}
 use Rattle.lie_weight.specs.OrbitModules.{step_matrix}
 use Rattle.lie_weight.specs.Factors.{IsStepping, AreFactors, AreFactorsOf, AreModuleFactors}
-use Rattle.lie_weight.proofs.WeightLemmas.{simple_place, simple_some}
-use Rattle.lie_weight.proofs.StepLemmas.{place_simple, place_index, simple_within, opposite_within, negative_some, step_stepping, step-size, module_factors, ok_both}
+use Rattle.lie_orbit.proofs.WeightLemmas.{simple_place, simple_some}
+use Rattle.lie_weight.proofs.StepLemmas.{place_simple, place_index, negative_some, step_stepping, step-size, module_factors, ok_both}
 use Rattle.lie_weight.proofs.stepped.simple_factors.Goals as goal
 use Rattle.lie_weight.proofs.stepped.simple_factors.Goals.{After-at-simple, After-opposite, In_ok-up, In_ok-down}
 
@@ -21,9 +20,6 @@ simple_is c = place_simple c.args.datum.now c.loaded.ensures c.args.i c.m.result
 simple_number : (c : After-at-simple) → IsNumber c.args.datum.now (pos (c.args.i + 1))
 simple_number c = simple_some c.args.datum.now c.loaded.ensures (c.args.i + 1) (place_index c.args.datum.now c.loaded.ensures c.args.i c.requires.index)
 
-simple_near : (c : After-at-simple) → IsWithin 100 (vector c.args.datum.now.base (root_of c.args.datum.now (pos (c.args.i + 1))))
-simple_near c = simple_within c.args.datum.now c.loaded.ensures (c.args.i + 1) (place_index c.args.datum.now c.loaded.ensures c.args.i c.requires.index)
-
 opposite_is : (c : After-opposite) → c.opposite.result ≡ neg_ℤ (pos (c.args.i + 1))
 opposite_is c = c.opposite.ensures ∙ ap neg_ℤ (place_simple c.args.datum.now c.loaded.ensures c.args.i c.m.result c.at-simple.result c.requires.index c.m.ensures.value c.at-simple.ensures)
 
@@ -32,21 +28,10 @@ step_matrix-requires-clause-number c =
     let a = (goal.at.step_matrix-requires-clause-number c).After-at-simple in
     subst (IsNumber c.args.datum.now) (sym (simple_is a)) (simple_number a)
 
-pub step_matrix-requires-clause-near : goal.step_matrix-requires-clause-near
-step_matrix-requires-clause-near c =
-    let a = (goal.at.step_matrix-requires-clause-near c).After-at-simple in
-    subst (λ t. IsWithin 100 (vector c.args.datum.now.base (root_of c.args.datum.now t))) (sym (simple_is a)) (simple_near a)
-
 pub step_matrix-requires-2-clause-number : goal.step_matrix-requires-2-clause-number
 step_matrix-requires-2-clause-number c =
     let o = (goal.at.step_matrix-requires-2-clause-number c).After-opposite in
     subst (IsNumber c.args.datum.now) (sym (opposite_is o)) (negative_some c.args.datum.now c.loaded.ensures (c.args.i + 1) (place_index c.args.datum.now c.loaded.ensures c.args.i c.requires.index))
-
-pub step_matrix-requires-2-clause-near : goal.step_matrix-requires-2-clause-near
-step_matrix-requires-2-clause-near c =
-    let o = (goal.at.step_matrix-requires-2-clause-near c).After-opposite in
-    let a = (goal.at.step_matrix-requires-2-clause-near c).After-at-simple in
-    subst (λ t. IsWithin 100 (vector c.args.datum.now.base (root_of c.args.datum.now t))) (sym (opposite_is o)) (opposite_within c.args.datum.now c.loaded.ensures 100 (pos (c.args.i + 1)) (simple_number a) (simple_near a))
 
 up_is : (c : In_ok-up) → c.in_ok-up.up ≡ step_matrix c.args.datum.now c.args.space.now.weights (pos (c.args.i + 1))
 up_is c = c.in_ok-up.ensures.value ∙ ap (λ (ws : List Vector). step_matrix c.args.datum.now ws c.at-simple.result) c.weights.ensures

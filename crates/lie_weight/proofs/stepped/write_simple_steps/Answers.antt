@@ -1,11 +1,11 @@
 use Rattle.std.proofs.Common.{◌≡◌, ◌+◌, pos, neg_ℤ, length, subst, sym, ap, ◌∙◌, arith}
 use Rattle.std.specs.List.{All}
-use Rattle.lie_datum.specs.RootDatum.{IsWithin, vector}
-use Rattle.lie_datum.specs.RootList.{IsNumber, root_of}
+use Rattle.lie_datum.specs.RootDatum.{IsWithin}
+use Rattle.lie_datum.specs.RootList.{IsNumber}
 use Rattle.lie_datum.proofs.ListingLemmas.{ok_map}
 use Rattle.lie_weight.specs.Completion.{IsStepped, WritesSteps}
-use Rattle.lie_weight.proofs.WeightLemmas.{simple_place, simple_some}
-use Rattle.lie_weight.proofs.StepLemmas.{place_simple, place_index, simple_within, opposite_within, negative_some, writes_single, writes_weights, two_steps}
+use Rattle.lie_orbit.proofs.WeightLemmas.{simple_place, simple_some}
+use Rattle.lie_weight.proofs.StepLemmas.{place_simple, place_index, negative_some, writes_single, writes_weights, two_steps}
 use Rattle.lie_weight.proofs.stepped.write_simple_steps.Goals as goal
 use Rattle.lie_weight.proofs.stepped.write_simple_steps.Goals.{After-at-simple, After-opposite, In_ok-write_steps}
 
@@ -20,9 +20,6 @@ simple_is c = place_simple c.args.datum.now c.loaded.ensures c.args.i c.m.result
 simple_number : (c : After-at-simple) → IsNumber c.args.datum.now (pos (c.args.i + 1))
 simple_number c = simple_some c.args.datum.now c.loaded.ensures (c.args.i + 1) (place_index c.args.datum.now c.loaded.ensures c.args.i c.requires.index)
 
-simple_near : (c : After-at-simple) → IsWithin 100 (vector c.args.datum.now.base (root_of c.args.datum.now (pos (c.args.i + 1))))
-simple_near c = simple_within c.args.datum.now c.loaded.ensures (c.args.i + 1) (place_index c.args.datum.now c.loaded.ensures c.args.i c.requires.index)
-
 opposite_is : (c : After-opposite) → c.opposite.result ≡ neg_ℤ (pos (c.args.i + 1))
 opposite_is c = c.opposite.ensures ∙ ap neg_ℤ (place_simple c.args.datum.now c.loaded.ensures c.args.i c.m.result c.at-simple.result c.requires.index c.m.ensures.value c.at-simple.ensures)
 
@@ -31,21 +28,10 @@ write_steps-requires-clause-number c =
     let a = (goal.at.write_steps-requires-clause-number c).After-at-simple in
     subst (IsNumber c.args.datum.now) (sym (simple_is a)) (simple_number a)
 
-pub write_steps-requires-clause-near : goal.write_steps-requires-clause-near
-write_steps-requires-clause-near c =
-    let a = (goal.at.write_steps-requires-clause-near c).After-at-simple in
-    subst (λ t. IsWithin 100 (vector c.args.datum.now.base (root_of c.args.datum.now t))) (sym (simple_is a)) (simple_near a)
-
 pub write_steps-requires-2-clause-number : goal.write_steps-requires-2-clause-number
 write_steps-requires-2-clause-number c =
     let o = (goal.at.write_steps-requires-2-clause-number c).After-opposite in
     subst (IsNumber c.args.datum.now) (sym (opposite_is o)) (negative_some c.args.datum.now c.loaded.ensures (c.args.i + 1) (place_index c.args.datum.now c.loaded.ensures c.args.i c.requires.index))
-
-pub write_steps-requires-2-clause-near : goal.write_steps-requires-2-clause-near
-write_steps-requires-2-clause-near c =
-    let o = (goal.at.write_steps-requires-2-clause-near c).After-opposite in
-    let a = (goal.at.write_steps-requires-2-clause-near c).After-at-simple in
-    subst (λ t. IsWithin 100 (vector c.args.datum.now.base (root_of c.args.datum.now t))) (sym (opposite_is o)) (opposite_within c.args.datum.now c.loaded.ensures 100 (pos (c.args.i + 1)) (simple_number a) (simple_near a))
 
 first_writes : (c : In_ok-write_steps) → WritesSteps c.args.datum.now c.args.space.now (pos (c.args.i + 1)) c.write_steps.new.space
 first_writes c = subst (λ t. WritesSteps c.args.datum.now c.args.space.now t c.write_steps.new.space) (place_simple c.args.datum.now c.loaded.ensures c.args.i c.m.result c.at-simple.result c.requires.index c.m.ensures.value c.at-simple.ensures) c.in_ok-write_steps.ensures

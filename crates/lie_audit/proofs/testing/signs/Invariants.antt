@@ -1,5 +1,0 @@
-use Rattle.lie_audit.specs.SignParts.{AreTested}
-use Rattle.lie_audit.proofs.testing.signs.Given as goal
-
-abbrev pub invariant-loop-i : goal.invariant-loop-i
-invariant-loop-i l = AreTested l.datum l.adjoint l.table.items l.i 0
