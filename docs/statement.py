@@ -15,7 +15,6 @@ from sources import Definition, Type
 TARGET = os.path.join(sources.TOP, "docs", "STATEMENT.md")
 # streams are read beside the session, which alone cites them
 LATE = ["lie_kit", "lie_session"]
-PROVED = "-- Own: for proofs; no public clause cites it."
 
 
 def anchor(heading):
@@ -189,7 +188,7 @@ def public_reach(repository):
 
 
 def apart(repository):
-    """The files of specs/ that no public clause reaches, and those among them whose heads don't say so."""
+    """Each file of specs/, whether a public clause reaches it, and whether its head says that none does: `no public clause cites it`."""
     reached = {id(it.file) for it in public_reach(repository) if isinstance(it, Definition) and it.kind != "abstract"}
     for crate in repository.below:
         for file in repository.specs[crate]:
@@ -213,6 +212,10 @@ def main(words):
         status = 1
     for it in bare:
         print(f"no sentence above {it!r}")
+    silent = [file.path for file, is_reached, says in apart(repository) if is_reached == says]
+    if silent:
+        print(f"{len(silent)} files of specs/ have no head that says rightly whether a public clause cites them: docs/statement.py --apart lists them")
+        status = 1
     if words == ["--check"]:
         old = open(TARGET, encoding="utf-8").read() if os.path.exists(TARGET) else ""
         if old != text:
