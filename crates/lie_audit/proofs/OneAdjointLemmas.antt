@@ -39,7 +39,6 @@ module _ (d : RootDatum) (loaded : IsLoaded d) (n m : Table) (stands : StandsFor
     where
       by : (x : Bool) → same_vector (coeffs_of d t) (plus (coeffs_of d r) (coeffs_of d s)) ≡ x → cond x (n r s) (pos 0) ≡ cond x (m r s) (pos 0)
       by true e = unique d loaded n m stands also r s number b
-          (not_opposite d loaded r s t (record { left = number; right = b; number = a; is = same_vector-true (coeffs_of d t) (plus (coeffs_of d r) (coeffs_of d s)) e }))
       by false e = refl
 
   bracket_same : (i j : ℕ) → i < adjoint_dimension d → j < adjoint_dimension d → bracket_at d n r i j ≡ bracket_at d m r i j

@@ -12,8 +12,7 @@ ghost use Rattle.lie_audit.specs.BraidParts.{HasBraidsFrom, IsFirstBadIn};
 use crate::entries::simple;
 use crate::faults::BraidFault;
 use lie_const::Signs;
-use lie_datum::{Datum, RootId};
-use lie_orbit::pairing;
+use lie_datum::{Datum, RootId, pairing};
 use lie_weyl::orders_of_products;
 
 /// The Cartan integer c_ij, which is <a_i, a_j^>.

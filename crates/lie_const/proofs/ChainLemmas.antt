@@ -115,7 +115,7 @@ module _ (d : RootDatum) (loaded : IsLoaded d) (n : Table) where
 
   -- where they have no sum it is 0
   pub value_none : (r s : ℤ) (v : Vector) → HasSigns d n → IsNumber d r → IsNumber d s → coeffs_of d s ≡ v → ((k : ℤ) → ¬ IsSum d r s k) → value_at d n (coeffs_of d r) v ≡ pos 0
-  value_none r s v signs p q e none = ⊎_elim (λ f. value_opposite r s v p q e f) (λ o. value_is r s v p q e o ∙ signs.none r s p q o none) (equal_or s (neg_ℤ r))
+  value_none r s v signs p q e none = ⊎_elim (λ f. value_opposite r s v p q e f) (λ o. value_is r s v p q e o ∙ signs.none r s p q none) (equal_or s (neg_ℤ r))
 
   -- ---- the walk along a string
   pub walk_start : (r s : ℤ) → IsNumber d r → IsNumber d s → IsWalked d n r s 0 (pos 1) s

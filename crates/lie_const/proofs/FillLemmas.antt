@@ -204,9 +204,9 @@ module _ (d : RootDatum) (loaded : IsLoaded d) where
   filled_none m e = record {
     count = e;
     signs = record {
-      none = λ r s a b o h. zeros r s;
-      swapped = λ r s a b o. zeros s r ∙ sym (ap neg_ℤ (zeros r s));
-      opposite = λ r s a b o. zeros (neg_ℤ r) (neg_ℤ s) ∙ sym (ap neg_ℤ (zeros r s));
+      none = λ r s a b h. zeros r s;
+      swapped = λ r s a b. zeros s r ∙ sym (ap neg_ℤ (zeros r s));
+      opposite = λ r s a b. zeros (neg_ℤ r) (neg_ℤ s) ∙ sym (ap neg_ℤ (zeros r s));
     };
     before = λ b l r s a e g. (let p = pair_special b r s (forced_pair d n b r s a e g) in absurd (early b p.0 p.1 l));
   }

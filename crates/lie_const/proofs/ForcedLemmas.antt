@@ -55,8 +55,8 @@ module _ (d : RootDatum) (loaded : IsLoaded d) where
 
     pub agree_closed : IsClosed d Agree
     agree_closed = record {
-      swapped = λ r s a b o e. ms.swapped r s a b o ∙ ap neg_ℤ e ∙ sym (ns.swapped r s a b o);
-      opposite = λ r s a b o e. ms.opposite r s a b o ∙ ap neg_ℤ e ∙ sym (ns.opposite r s a b o);
+      swapped = λ r s a b o e. ms.swapped r s a b ∙ ap neg_ℤ e ∙ sym (ns.swapped r s a b);
+      opposite = λ r s a b o e. ms.opposite r s a b ∙ ap neg_ℤ e ∙ sym (ns.opposite r s a b);
     }
 
     -- where they agree at a special pair and its mixed pairs, they agree
@@ -69,7 +69,7 @@ module _ (d : RootDatum) (loaded : IsLoaded d) where
 
     -- a positive and a negative root, where the sums in question are known
     agree_mixed : (known : ℤ → Type 0) → ((r s k : ℤ) → IsSpecial d r s k → known k → HoldsOn Agree r s k) → (p q : ℤ) → IsNumber d p → IsNumber d q → q ≢ neg_ℤ p → pos 0 <ℤ p → q <ℤ pos 0 → known p → known (neg_ℤ q) → Agree p q
-    agree_mixed known special p q a b o l h u v = ⊎_elim (λ f. mixed_pair d loaded Agree agree_closed known special p q f.0 f.1 l h u v) (λ f. ms.none p q a b o f ∙ sym (ns.none p q a b o f)) (sum_or p q a b)
+    agree_mixed known special p q a b o l h u v = ⊎_elim (λ f. mixed_pair d loaded Agree agree_closed known special p q f.0 f.1 l h u v) (λ f. ms.none p q a b f ∙ sym (ns.none p q a b f)) (sum_or p q a b)
 
     -- what the equation of a special pair beside the extraspecial one reads
     module _ (k : ℤ) (before : (r s j : ℤ) → IsSpecial d r s j → j <ℤ k → HoldsOn Agree r s j) where

@@ -17,4 +17,6 @@ pub mod ListedTerms
 pub mod SameTerms
 pub mod OneAnswer
 pub mod PartLemmas
+pub mod TableTest
+mod PairExamples
 mod WorkedExamples

@@ -22,36 +22,8 @@ use Rattle.lie_const.proofs.ForcedLemmas.{agree_before, forced_same}
 use Rattle.lie_const.proofs.PutLemmas.{IsSameEquation, one_equation, forced_pair}
 use Rattle.lie_const.proofs.Decisions.{string_exists}
 use Rattle.lie_const.proofs.Unique.{unique}
+use Rattle.lie_const.proofs.SameTerms.{same_coefficient, one_terms}
 use Rattle.lie_const.proofs.TermLemmas.{valued}
-
-term_eq : (t t' : Term) → t.i ≡ t'.i → t.j ≡ t'.j → t.root ≡ t'.root → t.value ≡ t'.value → t ≡ t'
-term_eq t t' a b c e =
-    let make : ℕ → ℕ → ℤ → ℤ → Term = λ i j root value. record { i = i; j = j; root = root; value = value } in
-    ap (λ x. make x t.j t.root t.value) a ∙ ap (λ x. make t'.i x t.root t.value) b ∙ ap (λ x. make t'.i t'.j x t.value) c ∙ ap (make t'.i t'.j t'.root) e
-
-factorial_positive : (n : ℕ) → 0 < factorial n
-factorial_positive zero = omega arith
-factorial_positive (suc n) = let h = factorial_positive n in product (factorial n) h
-  where
-    product : (m : ℕ) → 0 < m → 0 < suc n * m
-    product m l = omega (arith, l)
-
--- a fraction has a number above 0 below its line
-below_positive : (d : RootDatum) (n : Table) (u v : Vector) (i j : ℕ) → 0 < (coefficient d n u v i j).below
-below_positive d n u v i (suc zero) = factorial_positive i
-below_positive d n u v (suc zero) zero = factorial_positive 0
-below_positive d n u v (suc zero) (suc (suc j)) = factorial_positive (suc (suc j))
-below_positive d n u v (suc (suc (suc zero))) (suc (suc zero)) = omega arith
-below_positive d n u v (suc (suc zero)) (suc (suc (suc zero))) = omega arith
-below_positive d n u v zero zero = omega arith
-below_positive d n u v zero (suc (suc j)) = omega arith
-below_positive d n u v (suc (suc zero)) zero = omega arith
-below_positive d n u v (suc (suc zero)) (suc (suc zero)) = omega arith
-below_positive d n u v (suc (suc zero)) (suc (suc (suc (suc j)))) = omega arith
-below_positive d n u v (suc (suc (suc zero))) zero = omega arith
-below_positive d n u v (suc (suc (suc zero))) (suc (suc (suc j))) = omega arith
-below_positive d n u v (suc (suc (suc (suc i)))) zero = omega arith
-below_positive d n u v (suc (suc (suc (suc i)))) (suc (suc j)) = omega arith
 
 -- ---- the first failure is one, and none comes where a table stands
 module _ (d : RootDatum) (loaded : IsLoaded d) where
@@ -83,58 +55,10 @@ module _ (d : RootDatum) (loaded : IsLoaded d) where
           let same = forced_same d loaded f.table g.table f.signs g.signs f.at r' s' a' e' there (agree_before d loaded f.table g.table f.signs g.signs f.at f.before before) in
           one_equation d loaded f.table f.at r s a e r' s' a' e' f.forced same
 
-  -- ---- terms are those of one table
+  -- ---- a coefficient is whole by all tables or by none
   module _ (m n : Table) (ms : StandsFor d m) (ns : StandsFor d n) where
-    value_same : (u v : Vector) → value_at d m u v ≡ value_at d n u v
-    value_same u v = ⊎_elim
-        (λ a. ⊎_elim (λ b. both a b) (λ b. value_absent_right d m u v b ∙ sym (value_absent_right d n u v b)) (number_of_or d loaded v))
-        (λ a. value_absent_left d m u v a ∙ sym (value_absent_left d n u v a)) (number_of_or d loaded u)
-      where
-        both : IsNumber d (number_of d u) × (coeffs_of d (number_of d u) ≡ u) → IsNumber d (number_of d v) × (coeffs_of d (number_of d v) ≡ v) → value_at d m u v ≡ value_at d n u v
-        both a b =
-            let x = number_of d u in
-            let y = number_of d v in
-            subst (λ t. value_at d m t v ≡ value_at d n t v) a.1
-            (⊎_elim (λ o. value_opposite d loaded m x y v a.0 b.0 b.1 o ∙ sym (value_opposite d loaded n x y v a.0 b.0 b.1 o))
-            (λ o. value_is d loaded m x y v a.0 b.0 b.1 o ∙ unique d loaded m n ms ns x y a.0 b.0 o ∙ sym (value_is d loaded n x y v a.0 b.0 b.1 o)) (equal_or y (neg_ℤ x)))
-
-    string_product_same : (u v : Vector) (i : ℕ) → string_product d m u v i ≡ string_product d n u v i
-    string_product_same u v zero = refl
-    string_product_same u v (suc i) = ap (λ t. t *ℤ value_at d m u (plus (times (pos i) u) v)) (string_product_same u v i) ∙ ap (λ t. string_product d n u v i *ℤ t) (value_same u (plus (times (pos i) u) v))
-
-    coefficient_same : (u v : Vector) (i j : ℕ) → coefficient d m u v i j ≡ coefficient d n u v i j
-    coefficient_same u v i (suc zero) = ap (λ t. record { above = t; below = factorial i }) (string_product_same u v i)
-    coefficient_same u v (suc zero) zero = ap (λ t. record { above = sign 0 *ℤ t; below = factorial 0 }) (string_product_same v u 0)
-    coefficient_same u v (suc zero) (suc (suc j)) = ap (λ t. record { above = sign (suc (suc j)) *ℤ t; below = factorial (suc (suc j)) }) (string_product_same v u (suc (suc j)))
-    coefficient_same u v (suc (suc (suc zero))) (suc (suc zero)) = ap (λ t. record { above = t; below = 6 }) (string_product_same (plus u v) u 2)
-    coefficient_same u v (suc (suc zero)) (suc (suc (suc zero))) = ap (λ t. record { above = negsuc 1 *ℤ t; below = 6 }) (string_product_same (plus v u) v 2)
-    coefficient_same u v zero zero = refl
-    coefficient_same u v zero (suc (suc j)) = refl
-    coefficient_same u v (suc (suc zero)) zero = refl
-    coefficient_same u v (suc (suc zero)) (suc (suc zero)) = refl
-    coefficient_same u v (suc (suc zero)) (suc (suc (suc (suc j)))) = refl
-    coefficient_same u v (suc (suc (suc zero))) zero = refl
-    coefficient_same u v (suc (suc (suc zero))) (suc (suc (suc j))) = refl
-    coefficient_same u v (suc (suc (suc (suc i)))) zero = refl
-    coefficient_same u v (suc (suc (suc (suc i)))) (suc (suc j)) = refl
-
     fraction_same : (r s : ℤ) (e : ℕ × ℕ) → IsFraction d m r s e → IsFraction d n r s e
-    fraction_same r s e f c h = f c (subst (IsValue c) (sym (coefficient_same (coeffs_of d r) (coeffs_of d s) e.0 e.1)) h)
-
-    term_same : (r s : ℤ) (e : ℕ × ℕ) (t t' : Term) → IsTerm d m r s e t → IsTerm d n r s e t' → t ≡ t'
-    term_same r s e t t' p q =
-        let c = coefficient d m (coeffs_of d r) (coeffs_of d s) e.0 e.1 in
-        let there = subst (IsValue t'.value) (sym (coefficient_same (coeffs_of d r) (coeffs_of d s) e.0 e.1)) q.value in
-        term_eq t t' (p.i ∙ sym q.i) (p.j ∙ sym q.j) (p.root ∙ sym q.root)
-        (cancel t.value t'.value (pos c.below) (let l = below_positive d m (coeffs_of d r) (coeffs_of d s) e.0 e.1 in omega (arith, ints, l)) (p.value ∙ sym there))
-
-    terms_same : (r s : ℤ) (es : List (ℕ × ℕ)) (ts ts' : List Term) → AllZip (IsTerm d m r s) es ts → AllZip (IsTerm d n r s) es ts' → ts ≡ ts'
-    terms_same r s [] [] [] h g = refl
-    terms_same r s [] (t ∷ ts) ts' h g = absurd h
-    terms_same r s [] [] (t' ∷ ts') h g = absurd g
-    terms_same r s (e ∷ es) [] ts' h g = absurd h
-    terms_same r s (e ∷ es) (t ∷ ts) [] h g = absurd g
-    terms_same r s (e ∷ es) (t ∷ ts) (t' ∷ ts') h g = let a = term_same r s e t t' h.0 g.0 in let b = terms_same r s es ts ts' h.1 g.1 in cc
+    fraction_same r s e f c h = f c (subst (IsValue c) (sym (same_coefficient d loaded m n ms ns (coeffs_of d r) (coeffs_of d s) e.0 e.1)) h)
 
     -- the first that is not whole is one
     one_fraction : (r s r' s' : ℤ) (i j i' j' : ℕ) → IsFirstFraction d m r s i j → IsFirstFraction d n r' s' i' j' → (r ≡ r') × (s ≡ s') × ◌≡◌ {A = ℕ × ℕ} (i, j) (i', j')
@@ -144,7 +68,7 @@ module _ (d : RootDatum) (loaded : IsLoaded d) where
         (λ k. first (same_place (length d.positive) r r' (place_within d r f.pair.left) (place_within d r' g.pair.left) (omega (arith, l, k)))) (within_or_past (place (length d.positive) r') (place (length d.positive) r))) (within_or_past (place (length d.positive) r) (place (length d.positive) r'))
       where
         back : (r s : ℤ) (e : ℕ × ℕ) → IsFraction d n r s e → IsFraction d m r s e
-        back r s e f c h = f c (subst (IsValue c) (coefficient_same (coeffs_of d r) (coeffs_of d s) e.0 e.1) h)
+        back r s e f c h = f c (subst (IsValue c) (same_coefficient d loaded m n ms ns (coeffs_of d r) (coeffs_of d s) e.0 e.1) h)
 
         third : (p : r ≡ r') (q : s ≡ s') → ◌≡◌ {A = ℕ × ℕ} (i, j) (i', j')
         third p q =
@@ -174,8 +98,8 @@ module _ (d : RootDatum) (loaded : IsLoaded d) where
 pub loads_one_way : LoadsOneWay
 loads_one_way d (Ok c) (Ok c') loaded h g p q = record {
   positive = h.0 ∙ sym g.0;
-  values = λ r s a b o. unique d loaded (value_of c) (value_of c') h.1 g.1 r s a b o;
-  terms = λ r s w. terms_same d loaded (value_of c) (value_of c') h.1 g.1 r s (term_exponents d r s) (terms_of c r s) (terms_of c' r s) (h.2 r s w) (g.2 r s w);
+  values = λ r s a b. unique d loaded (value_of c) (value_of c') h.1 g.1 r s a b;
+  terms = λ r s w. one_terms d loaded (value_of c) (value_of c') h.1 g.1 r s (terms_of c r s) (terms_of c' r s) (h.2 r s w) (g.2 r s w);
 }
 loads_one_way d x (Err NoMemory) loaded h g p q = absurd (q refl)
 loads_one_way d (Err NoMemory) y loaded h g p q = absurd (p refl)

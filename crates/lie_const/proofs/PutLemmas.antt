@@ -177,11 +177,11 @@ module _ (d : RootDatum) (loaded : IsLoaded d) (n n' : Table) (ns : HasSigns d n
 
   pub put_signs : HasSigns d n'
   put_signs = record {
-    none = λ x y a b o h. ⊎_elim (λ t. (let z = turned_sum x y t in absurd (h z.0 z.1))) (λ t. put.others x y a b t ∙ ns.none x y a b o h) (turned_or p q x y);
-    swapped = λ x y a b o. ⊎_elim (λ t. put_swapped x y t)
-        (λ t. put.others y x b a (λ u. t (turned_swapped p q x y u)) ∙ ns.swapped x y a b o ∙ ap neg_ℤ (sym (put.others x y a b t))) (turned_or p q x y);
-    opposite = λ x y a b o. ⊎_elim (λ t. put_opposite x y t)
-        (λ t. put.others (neg_ℤ x) (neg_ℤ y) (neg_number d loaded x a) (neg_number d loaded y b) (λ u. t (turned_opposite p q x y u)) ∙ ns.opposite x y a b o ∙ ap neg_ℤ (sym (put.others x y a b t))) (turned_or p q x y);
+    none = λ x y a b h. ⊎_elim (λ t. (let z = turned_sum x y t in absurd (h z.0 z.1))) (λ t. put.others x y a b t ∙ ns.none x y a b h) (turned_or p q x y);
+    swapped = λ x y a b. ⊎_elim (λ t. put_swapped x y t)
+        (λ t. put.others y x b a (λ u. t (turned_swapped p q x y u)) ∙ ns.swapped x y a b ∙ ap neg_ℤ (sym (put.others x y a b t))) (turned_or p q x y);
+    opposite = λ x y a b. ⊎_elim (λ t. put_opposite x y t)
+        (λ t. put.others (neg_ℤ x) (neg_ℤ y) (neg_number d loaded x a) (neg_number d loaded y b) (λ u. t (turned_opposite p q x y u)) ∙ ns.opposite x y a b ∙ ap neg_ℤ (sym (put.others x y a b t))) (turned_or p q x y);
   }
 
   -- at other places the tables agree

@@ -1,81 +1,17 @@
 -- The terms of two roots are the same by all tables that stand for one datum.
-use Rattle.std.proofs.Common.{◌≡◌, ◌≢◌, ℕ, zero, suc, ◌+◌, ◌*◌, ◌<◌, ℤ, pos, negsuc, ◌*ℤ◌, List, [], ◌∷◌, Bool, true, false, cond, ◌||◌, Option, Some, None, get_or, refl, sym, ap, ap₂, subst, ◌∙◌, arith}
+use Rattle.std.proofs.Common.{◌≡◌, ℕ, zero, suc, ◌*◌, ◌<◌, ℤ, pos, negsuc, ◌*ℤ◌, List, [], ◌∷◌, cond, ◌||◌, refl, sym, ap, ap₂, subst, ◌∙◌, arith, ⊎_elim}
 use Rattle.std.proofs.lemmas.Int.{ints}
-use Rattle.std.proofs.lemmas.Cmp.{tied_itself}
-use Rattle.std.proofs.lemmas.List.Quantifiers.{position-Some}
-use Rattle.std.proofs.lemmas.Option.{unwrap_or-slice_get}
-use Rattle.std.specs.List.{position, AllZip}
-use Rattle.std.specs.Option.{option_map_or}
+use Rattle.std.specs.List.{AllZip}
 use Rattle.std.specs.Ordering.{int_cmp, is_eq}
-use Rattle.std.specs.Cmp.Lexicographic.{slice_cmp}
-use Rattle.std.specs.declared.cmp.Ordering.{Ordering}
-use Rattle.std.specs.declared.cmp.Ordering.TheVariants.{Less, Equal, Greater}
 use Rattle.lie_datum.specs.Vectors.{Vector, plus, times, minus}
-use Rattle.lie_datum.specs.declared.root_pair.Root.{Root}
-use Rattle.lie_datum.specs.RootList.{RootDatum, IsLoaded, IsNumber}
-use Rattle.lie_datum.proofs.LoadedLaws.{twice_opposite}
-use Rattle.lie_datum.proofs.NumberLemmas.{some_within}
-use Rattle.lie_datum.proofs.RootOrder.{slices_total, equal_slices}
-use Rattle.lie_datum.proofs.SignedRoots.{opposite_number}
+use Rattle.lie_datum.specs.RootList.{RootDatum, IsLoaded}
 use Rattle.lie_const.specs.StructureConstants.{Table, coeffs_of, same_vector, StandsFor}
 use Rattle.lie_const.specs.CommutatorTerms.{Fraction, number_of, value_at, string_product, factorial, sign, coefficient, IsValue, term_exponents, IsTerm, AreTerms}
 use Rattle.lie_const.specs.declared.term.Term.{Term}
 use Rattle.lie_const.proofs.Norms.{cancel}
+use Rattle.lie_const.proofs.FoundRoots.{number_of_or}
+use Rattle.lie_const.proofs.ChainLemmas.{value_absent_left, value_absent_right}
 use Rattle.lie_const.proofs.Unique.{unique}
-
--- vectors that the test finds equal
-same_is : (u v : Vector) → same_vector u v ≡ true → u ≡ v
-same_is u v e = by (slice_cmp int_cmp u v) refl e
-  where
-    by : (o : Ordering) → slice_cmp int_cmp u v ≡ o → is_eq o ≡ true → u ≡ v
-    by Less f e = absurd cc
-    by Equal f e = equal_slices u v f
-    by Greater f e = absurd cc
-
--- a vector is found equal to itself
-same_itself : (u v : Vector) → u ≡ v → same_vector u v ≡ true
-same_itself u v e = subst (λ w. same_vector u w ≡ true) e (ap is_eq (tied_itself slices_total u))
-
-minus_minus : (v : Vector) → minus (minus v) ≡ v
-minus_minus v = ap (λ (r : Root). r.coeffs) (twice_opposite (record { coeffs = v; co_coeffs = v }))
-
-no_zero : (k : ℤ) → is_eq (int_cmp k (pos 0)) ≡ false → k ≢ pos 0
-no_zero k t e = let h = ap (λ z. is_eq (int_cmp z (pos 0))) e in cc
-
--- none of three tests passed
-none_of : (a b c : Bool) → (a || b || c) ≡ false → (a ≡ false) × (b ≡ false) × (c ≡ false)
-none_of true b c e = absurd cc
-none_of false true c e = absurd cc
-none_of false false true e = absurd cc
-none_of false false false e = (refl, refl, refl)
-
--- the number of a root that is found names it
-module _ (d : RootDatum) where
-  named_above : (v : Vector) (i : ℕ) → position (λ r. same_vector r.coeffs v) d.positive ≡ Some i → IsNumber d (pos (i + 1)) × (coeffs_of d (pos (i + 1)) ≡ v)
-  named_above v i e =
-      let z : Root = record { coeffs = []; co_coeffs = [] } in
-      let f = position-Some (λ (r : Root). same_vector r.coeffs v) d.positive i z e in
-      let is : i + 1 ≡ suc i = omega arith in
-      subst (λ n. IsNumber d (pos n) × (coeffs_of d (pos n) ≡ v)) (sym is)
-      (some_within d.positive i f.0, ap (λ (r : Root). r.coeffs) (unwrap_or-slice_get d.positive i z) ∙ same_is (get_or d.positive i z).coeffs v f.1)
-
-  named_below : (v : Vector) (i : ℕ) → position (λ r. same_vector r.coeffs (minus v)) d.positive ≡ Some i → IsNumber d (negsuc i) × (coeffs_of d (negsuc i) ≡ v)
-  named_below v i e =
-      let up = named_above (minus v) i e in
-      let is : i + 1 ≡ suc i = omega arith in
-      let there = subst (λ n. IsNumber d (pos n) × (coeffs_of d (pos n) ≡ minus v)) is up in
-      let turned = opposite_number d (pos (suc i)) there.0 in
-      (turned.0, ap (λ (r : Root). r.coeffs) turned.1 ∙ ap minus there.1 ∙ minus_minus v)
-
-  named : (v : Vector) → number_of d v ≢ pos 0 → IsNumber d (number_of d v) × (coeffs_of d (number_of d v) ≡ v)
-  named v some = by (position (λ r. same_vector r.coeffs v) d.positive) refl (position (λ r. same_vector r.coeffs (minus v)) d.positive) refl some
-    where
-      by : (o : Option ℕ) → position (λ r. same_vector r.coeffs v) d.positive ≡ o → (o' : Option ℕ) → position (λ r. same_vector r.coeffs (minus v)) d.positive ≡ o'
-          → option_map_or (λ k. pos (k + 1)) o (option_map_or negsuc o' (pos 0)) ≢ pos 0
-          → IsNumber d (option_map_or (λ k. pos (k + 1)) o (option_map_or negsuc o' (pos 0))) × (coeffs_of d (option_map_or (λ k. pos (k + 1)) o (option_map_or negsuc o' (pos 0))) ≡ v)
-      by (Some i) e o' f some = named_above v i e
-      by None e (Some i) f some = named_below v i f
-      by None e None f some = absurd (some refl)
 
 product_some : (a b : ℕ) → 0 < a → 0 < b → 0 < a * b
 product_some a b p q = grind (arith, p, q)
@@ -87,19 +23,12 @@ factorial_positive (suc n) = product_some (suc n) (factorial n) (omega arith) (f
 -- two tables that stand for one datum
 module _ (d : RootDatum) (loaded : IsLoaded d) (m n : Table) (a : StandsFor d m) (b : StandsFor d n) where
   same_value_at : (u v : Vector) → value_at d m u v ≡ value_at d n u v
-  same_value_at u v = by (is_eq (int_cmp (number_of d u) (pos 0)) || is_eq (int_cmp (number_of d v) (pos 0)) || same_vector u (minus v)) refl
-    where
-      by : (t : Bool) → (is_eq (int_cmp (number_of d u) (pos 0)) || is_eq (int_cmp (number_of d v) (pos 0)) || same_vector u (minus v)) ≡ t
-          → cond t (pos 0) (m (number_of d u) (number_of d v)) ≡ cond t (pos 0) (n (number_of d u) (number_of d v))
-      by true e = refl
-      by false e =
-          let tests = none_of (is_eq (int_cmp (number_of d u) (pos 0))) (is_eq (int_cmp (number_of d v) (pos 0))) (same_vector u (minus v)) e in
-          let x = named d u (no_zero (number_of d u) tests.0) in
-          let y = named d v (no_zero (number_of d v) tests.1) in
-          unique d loaded m n a b (number_of d u) (number_of d v) x.0 y.0
-          (λ f. (let turned = opposite_number d (number_of d u) x.0 in
-          let is : v ≡ minus u = sym y.1 ∙ ap (coeffs_of d) f ∙ ap (λ (r : Root). r.coeffs) turned.1 ∙ ap minus x.1 in
-          let same = same_itself u (minus v) (sym (minus_minus u) ∙ ap minus (sym is)) in cc))
+  same_value_at u v =
+      ⊎_elim
+      (λ x. ⊎_elim
+      (λ y. ap (cond (is_eq (int_cmp (number_of d u) (pos 0)) || is_eq (int_cmp (number_of d v) (pos 0)) || same_vector u (minus v)) (pos 0)) (unique d loaded m n a b (number_of d u) (number_of d v) x.0 y.0))
+      (λ y. value_absent_right d m u v y ∙ sym (value_absent_right d n u v y)) (number_of_or d loaded v))
+      (λ x. value_absent_left d m u v x ∙ sym (value_absent_left d n u v x)) (number_of_or d loaded u)
 
   same_string_product : (r s : Vector) (i : ℕ) → string_product d m r s i ≡ string_product d n r s i
   same_string_product r s zero = refl

@@ -1,8 +1,8 @@
 -- A test that a table holds the constants and terms of a loaded datum: what it passes does. Its purpose is worked examples.
 use Rattle.std.proofs.Common.{◌≡◌, ◌≢◌, ℕ, zero, suc, ◌+◌, ◌<◌, ◌≤◌, eqb, Bool, true, false, not, ◌&&◌, ◌||◌, ℤ, pos, negsuc, neg_ℤ, ◌+ℤ◌, ◌*ℤ◌, ◌<ℤ◌, List, [], ◌∷◌, length, Ok, refl, sym, ap, ◌∙◌, arith, inl, inr, ◌⊎◌, ⊎_elim, slice_get}
 use Rattle.std.specs.Prelude.{int_lt}
-use Rattle.std.proofs.lemmas.Int.{ints}
-use Rattle.std.proofs.lemmas.Bool.{and_parts, and_from, or_cases, not-true, eqb-true, true≢false, false≢true, cases_Bool}
+use Rattle.std.proofs.lemmas.Int.{ints, by_lt_z}
+use Rattle.std.proofs.lemmas.Bool.{and_parts, and_from, or_left, or_right, or_cases, not-true, eqb-true, true≢false, false≢true, cases_Bool}
 use Rattle.std.proofs.lemmas.Bool.Decides.{Decides-int_eq}
 use Rattle.std.specs.Ordering.{int_eq}
 use Rattle.std.specs.List.{list_any, AllZip}
@@ -11,6 +11,7 @@ use Rattle.lie_datum.specs.declared.root_pair.Root.{Root}
 use Rattle.lie_datum.specs.Vectors.{Vector, plus, times, minus}
 use Rattle.lie_datum.specs.RootDatum.{opposite}
 use Rattle.lie_datum.specs.RootList.{RootDatum, IsLoaded, IsNumber, root_of, all_roots, IsRootVector, IsRun, IsString}
+use Rattle.lie_datum.proofs.Entries.{within_or_past}
 use Rattle.lie_datum.proofs.NumberLemmas.{within, some_map, some_within}
 use Rattle.lie_datum.proofs.SignedRoots.{number_is}
 use Rattle.lie_datum.proofs.LoadedLaws.{all_only, all_in}
@@ -20,10 +21,10 @@ use Rattle.lie_const.specs.declared.term.Term.{Term}
 use Rattle.lie_const.specs.StructureConstants.{same_vector, Table, coeffs_of, IsSum, IsSpecial, IsExtraspecial, norm, gap, IsForced, extra, own, right, left, IsUnitValue, StandsFor}
 use Rattle.lie_const.specs.CommutatorTerms.{number_of, coefficient, term_vector, term_exponents, IsTerm}
 use Rattle.lie_const.specs.ConstantTables.{ConstantTable, value_of, terms_of, LoadsConstants}
-use Rattle.lie_letters.proofs.NameLemmas.{same_vector-true, same_vector-self}
+use Rattle.lie_datum.proofs.RootOrder.{same_vector-true, same_vector-self}
 use Rattle.lie_datum.proofs.LoadedTest.{each_below, each_at}
 
-pub same_or : (a b : Bool) → (a || b) ≡ true → a ≡ false → b ≡ true
+same_or : (a b : Bool) → (a || b) ≡ true → a ≡ false → b ≡ true
 same_or true b e h = absurd (true≢false h)
 same_or false b e h = e
 
@@ -56,10 +57,16 @@ some_at (suc n) t e =
     (λ (h : some_below n t ≡ true). (let m = some_at n t h in (m.0, m.1, (let l = m.2 in omega (arith, l)))))
     (or_cases (t n) (some_below n t) e)
 
+some_from : (n : ℕ) (t : ℕ → Bool) (k : ℕ) → k < n → t k ≡ true → some_below n t ≡ true
+some_from zero t k l e = absurd (omega (arith, l))
+some_from (suc n) t k l e =
+    ⊎_elim (λ (m : k < n). or_right (t n) (some_below n t) (some_from n t k m e))
+    (λ (m : n ≤ k). (let same : k ≡ n = omega (arith, l, m) in or_left (t n) (some_below n t) (ap t (sym same) ∙ e))) (within_or_past k n)
+
 -- ---- the tests
 module _ (d : RootDatum) where
   -- each number of a root, and each positive one
-  abbrev pub each_number : (ℤ → Bool) → Bool
+  abbrev each_number : (ℤ → Bool) → Bool
   each_number t = each_below (length d.positive) (λ k. t (pos (suc k)) && t (negsuc k))
 
   abbrev each_positive : (ℤ → Bool) → Bool
@@ -106,8 +113,7 @@ module _ (d : RootDatum) where
     -- the signs at a pair
     abbrev signs_test : ℤ → ℤ → Bool
     signs_test r s =
-        int_eq s (neg_ℤ r)
-        || ((root_test (sum_vector r s) || int_eq (n r s) (pos 0)) && (int_eq (n s r) (neg_ℤ (n r s)) && int_eq (n (neg_ℤ r) (neg_ℤ s)) (neg_ℤ (n r s))))
+        (root_test (sum_vector r s) || int_eq (n r s) (pos 0)) && (int_eq (n s r) (neg_ℤ (n r s)) && int_eq (n (neg_ℤ r) (neg_ℤ s)) (neg_ℤ (n r s)))
 
     -- the equation of (r, s) with the extraspecial pair (r0, s0)
     abbrev own_test : ℤ → ℤ → ℤ → ℤ → ℤ → Bool
@@ -149,7 +155,7 @@ constants_test d c =
 
 -- ---- what the tests say
 module _ (d : RootDatum) where
-  pub number_at : (t : ℤ → Bool) → each_number d t ≡ true → (k : ℤ) → IsNumber d k → t k ≡ true
+  number_at : (t : ℤ → Bool) → each_number d t ≡ true → (k : ℤ) → IsNumber d k → t k ≡ true
   number_at t e (pos zero) h = cc
   number_at t e (pos (suc k)) h =
       (and_parts (t (pos (suc k))) (t (negsuc k)) (each_at (length d.positive) (λ k. t (pos (suc k)) && t (negsuc k)) e k (within d.positive k h))).0
@@ -161,7 +167,10 @@ module _ (d : RootDatum) where
   positive_at t e (pos (suc k)) h l = each_at (length d.positive) (λ k. t (pos (suc k))) e k (within d.positive k h)
   positive_at t e (negsuc k) h l = absurd (omega (arith, ints, l))
 
-  pub is_equal : (a b : ℤ) → int_eq a b ≡ true → a ≡ b
+  int_lt-true : (a b : ℤ) → a <ℤ b → int_lt a b ≡ true
+  int_lt-true a b l = ⊎_elim (λ (e : int_lt a b ≡ true). e) (λ (e : int_lt a b ≡ false). absurd (omega (arith, ints, l, e))) (cases_Bool (int_lt a b))
+
+  is_equal : (a b : ℤ) → int_eq a b ≡ true → a ≡ b
   is_equal a b e = (Decides-int_eq a b).0 e
 
   not_equal : (a b : ℤ) → a ≢ b → int_eq a b ≡ false
@@ -176,7 +185,7 @@ module _ (d : RootDatum) where
     root_to : (v : Vector) → IsRootVector d v → root_test d v ≡ true
     root_to v h = any_from (λ (r : Root). same_vector r.coeffs v) (all_roots d) h.0 (all_in d loaded h.0 h.1) (ap (λ w. same_vector w v) h.2 ∙ same_vector-self v)
 
-    run_from : (r s : Vector) (n : ℕ) → run_test d r s n ≡ true → IsRun d r s n
+    pub run_from : (r s : Vector) (n : ℕ) → run_test d r s n ≡ true → IsRun d r s n
     run_from r s n e =
         let p = and_parts (each_below n (λ k. root_test d (plus s (times (pos (suc k)) r)))) (not (root_test d (plus s (times (pos (n + 1)) r)))) e in
         record {
@@ -223,7 +232,7 @@ module _ (d : RootDatum) where
         let m = some_at (length d.positive) (λ k. t (pos (suc k))) e in
         (pos (suc m.0), some_within d.positive m.0 m.2, omega (arith, ints), m.1)
 
-    special_from : (r s k : ℤ) → IsNumber d r → IsNumber d s → IsNumber d k → pos 0 <ℤ r → special_test d r s k ≡ true → IsSpecial d r s k
+    pub special_from : (r s k : ℤ) → IsNumber d r → IsNumber d s → IsNumber d k → pos 0 <ℤ r → special_test d r s k ≡ true → IsSpecial d r s k
     special_from r s k a b c l e =
         let p = and_parts (int_lt r s) (sum_test d r s k) e in
         let before = p.0 in
@@ -235,10 +244,7 @@ module _ (d : RootDatum) where
 
     special_to : (r s k : ℤ) → IsSpecial d r s k → special_test d r s k ≡ true
     special_to r s k h =
-        and_from (int_lt r s) (sum_test d r s k) (is_less r s h.before) (ap (λ v. same_vector v (sum_vector d r s)) h.sum.is ∙ same_vector-self (sum_vector d r s))
-      where
-        is_less : (a b : ℤ) → a <ℤ b → int_lt a b ≡ true
-        is_less a b l = ⊎_elim (λ (e : int_lt a b ≡ true). e) (λ (e : int_lt a b ≡ false). absurd (omega (arith, ints, l, e))) (cases_Bool (int_lt a b))
+        and_from (int_lt r s) (sum_test d r s k) (int_lt-true r s h.before) (ap (λ v. same_vector v (sum_vector d r s)) h.sum.is ∙ same_vector-self (sum_vector d r s))
 
     -- no special pair comes before an extraspecial one
     none_earlier : (r s k : ℤ) → IsExtraspecial d r s k → earlier_test d r k ≡ false
@@ -253,28 +259,45 @@ module _ (d : RootDatum) where
             let less = p.0 in
             omega (arith, ints, first, less)
 
+    -- a special pair before which no other comes is extraspecial
+    pub extraspecial_from : (r s k : ℤ) → IsNumber d r → IsNumber d s → IsNumber d k → pos 0 <ℤ r → special_test d r s k ≡ true → earlier_test d r k ≡ false → IsExtraspecial d r s k
+    extraspecial_from r s k a b c l e none = record {
+      special = special_from r s k a b c l e;
+      first = λ r' s' h. by_lt_z r' r (λ m. absurd (true≢false (sym (earlier r' s' h m) ∙ none))) (λ m. m);
+    }
+      where
+        below : (t : ℤ → Bool) (q : ℤ) → IsNumber d q → pos 0 <ℤ q → t q ≡ true → some_positive d t ≡ true
+        below t (pos zero) n l e = cc
+        below t (pos (suc j)) n l e = some_from (length d.positive) (λ k. t (pos (suc k))) j (within d.positive j n) e
+        below t (negsuc j) n l e = absurd (omega (arith, ints, l))
+
+        earlier : (r' s' : ℤ) → IsSpecial d r' s' k → r' <ℤ r → earlier_test d r k ≡ true
+        earlier r' s' h m =
+            let up : pos 0 <ℤ s' = let x = h.positive in let y = h.before in omega (arith, ints, x, y) in
+            below (λ q. int_lt q r && some_positive d (λ s. special_test d q s k)) r' h.sum.left h.positive
+            (and_from (int_lt r' r) (some_positive d (λ s. special_test d r' s k)) (int_lt-true r' r m) (below (λ s. special_test d r' s k) s' h.sum.right up (special_to r' s' k h)))
+
     module _ (n : Table) (passed : table_test d n ≡ true) where
       parts : (each_number d (λ r. each_number d (λ s. signs_test d n r s)) ≡ true) × (each_positive d (λ r. each_positive d (λ s. each_positive d (λ k. not (special_test d r s k) || pair_test d n r s k))) ≡ true)
       parts = and_parts _ _ passed
 
-      signs_at : (r s : ℤ) → IsNumber d r → IsNumber d s → s ≢ neg_ℤ r → (root_test d (sum_vector d r s) || int_eq (n r s) (pos 0)) ≡ true
+      signs_at : (r s : ℤ) → IsNumber d r → IsNumber d s → (root_test d (sum_vector d r s) || int_eq (n r s) (pos 0)) ≡ true
           × (n s r ≡ neg_ℤ (n r s)) × (n (neg_ℤ r) (neg_ℤ s) ≡ neg_ℤ (n r s))
-      signs_at r s a b apart =
+      signs_at r s a b =
           let t = number_at (λ s. signs_test d n r s) (number_at (λ r. each_number d (λ s. signs_test d n r s)) parts.0 r a) s b in
-          let rest = same_or (int_eq s (neg_ℤ r)) _ t (not_equal s (neg_ℤ r) apart) in
-          let p = and_parts (root_test d (sum_vector d r s) || int_eq (n r s) (pos 0)) _ rest in
+          let p = and_parts (root_test d (sum_vector d r s) || int_eq (n r s) (pos 0)) _ t in
           let q = and_parts (int_eq (n s r) (neg_ℤ (n r s))) (int_eq (n (neg_ℤ r) (neg_ℤ s)) (neg_ℤ (n r s))) p.1 in
           (p.0, is_equal (n s r) (neg_ℤ (n r s)) q.0, is_equal (n (neg_ℤ r) (neg_ℤ s)) (neg_ℤ (n r s)) q.1)
 
-      none_at : (r s : ℤ) → IsNumber d r → IsNumber d s → s ≢ neg_ℤ r → ((k : ℤ) → ¬ IsSum d r s k) → n r s ≡ pos 0
-      none_at r s a b apart none =
+      none_at : (r s : ℤ) → IsNumber d r → IsNumber d s → ((k : ℤ) → ¬ IsSum d r s k) → n r s ≡ pos 0
+      none_at r s a b none =
           ⊎_elim
           (λ (e : root_test d (sum_vector d r s) ≡ true).
           (let v = root_from (sum_vector d r s) e in
           let k = number_is d loaded v.0 v.1 in
           absurd (none k.0 (record { left = a; right = b; number = k.1; is = ap (λ (x : Root). x.coeffs) k.2 ∙ v.2 }))))
           (λ (e : int_eq (n r s) (pos 0) ≡ true). is_equal (n r s) (pos 0) e)
-          (or_cases (root_test d (sum_vector d r s)) (int_eq (n r s) (pos 0)) (signs_at r s a b apart).0)
+          (or_cases (root_test d (sum_vector d r s)) (int_eq (n r s) (pos 0)) (signs_at r s a b).0)
 
       -- the equations of a special pair
       pair_at : (r s k : ℤ) → IsSpecial d r s k → pair_test d n r s k ≡ true
@@ -334,8 +357,8 @@ module _ (d : RootDatum) where
       stands = record {
         signs = record {
           none = none_at;
-          swapped = λ r s a b apart. (signs_at r s a b apart).1;
-          opposite = λ r s a b apart. (signs_at r s a b apart).2;
+          swapped = λ r s a b. (signs_at r s a b).1;
+          opposite = λ r s a b. (signs_at r s a b).2;
         };
         values = holds;
       }

@@ -40,7 +40,7 @@ LoadsConstants d (Err (Fraction r s i j)) = (n : Table) × StandsFor d n × IsFi
 -- two tables say the same of each two roots
 pub record IsSameTable (d : RootDatum) (c c' : ConstantTable) : Type 0 where
   pub positive : c.positive ≡ c'.positive
-  pub values : (r s : ℤ) → IsNumber d r → IsNumber d s → s ≢ neg_ℤ r → value_of c r s ≡ value_of c' r s
+  pub values : (r s : ℤ) → IsNumber d r → IsNumber d s → value_of c r s ≡ value_of c' r s
   pub terms : (r s : ℤ) → IsPair d r s → terms_of c r s ≡ terms_of c' r s
 
 -- two answers are the same fault, or tables that say the same

@@ -8,12 +8,11 @@
 --
 -- Source: any text on Chevalley groups, as that of Carter; special and extraspecial pairs are his.
 -- Own: the signs on extraspecial pairs, which are all positive; the order in which the pairs are determined.
-use Rattle.std.specs.Prelude.{◌≡◌, ◌≢◌, ℕ, ◌+◌, ◌<◌, ℤ, pos, neg_ℤ, ◌+ℤ◌, ◌*ℤ◌, ◌≤ℤ◌, ◌<ℤ◌, ◌⊎◌, Bool, Option}
+use Rattle.std.specs.Prelude.{◌≡◌, ◌≢◌, ℕ, ◌+◌, ◌<◌, ℤ, pos, neg_ℤ, ◌+ℤ◌, ◌*ℤ◌, ◌≤ℤ◌, ◌<ℤ◌, ◌⊎◌, Option}
 use Rattle.std.specs.List.{find}
 use Rattle.std.specs.Option.{option_map_or}
-use Rattle.std.specs.Ordering.{int_cmp, is_eq}
-use Rattle.std.specs.Cmp.Lexicographic.{slice_cmp}
 use Rattle.lie_datum.specs.Vectors.{Vector, plus, minus}
+pub use Rattle.lie_datum.specs.Vectors.{same_vector}
 use Rattle.lie_datum.specs.declared.root_pair.Root.{Root}
 use Rattle.lie_datum.specs.RootList.{RootDatum, all_roots, root_of, IsNumber, IsString, length2}
 
@@ -42,10 +41,6 @@ pub record IsSpecial (d : RootDatum) (r s k : ℤ) : Type 0 where
 pub record IsExtraspecial (d : RootDatum) (r s k : ℤ) : Type 0 where
   pub special : IsSpecial d r s k
   pub first : (r' s' : ℤ) → IsSpecial d r' s' k → r ≤ℤ r'
-
--- two vectors are equal
-abbrev pub same_vector : Vector → Vector → Bool
-same_vector x y = is_eq (slice_cmp int_cmp x y)
 
 -- the root with these coefficients, if there is one
 abbrev pub find_root : RootDatum → Vector → Option Root
@@ -94,11 +89,11 @@ pub data IsForced (d : RootDatum) (n : Table) : Place → ℤ → ℤ → ℤ �
   -- N_(-k,r) |k|^2 = N_rs |s|^2
   left : (r s k : ℤ) → IsSpecial d r s k → IsForced d n (at_part k r 2) (neg_ℤ k) r (norm d k) (n r s *ℤ norm d s)
 
--- the rules that hold at every pair: N_rs is 0 where r + s is no root, N_sr = -N_rs, and N_(-r,-s) = -N_rs
+-- the rules that hold at every pair: N_rs is 0 where r + s is no root, as at equal and at opposite roots, N_sr = -N_rs, and N_(-r,-s) = -N_rs
 pub record HasSigns (d : RootDatum) (n : Table) : Type 0 where
-  pub none : (r s : ℤ) → IsNumber d r → IsNumber d s → s ≢ neg_ℤ r → ((k : ℤ) → ¬ IsSum d r s k) → n r s ≡ pos 0
-  pub swapped : (r s : ℤ) → IsNumber d r → IsNumber d s → s ≢ neg_ℤ r → n s r ≡ neg_ℤ (n r s)
-  pub opposite : (r s : ℤ) → IsNumber d r → IsNumber d s → s ≢ neg_ℤ r → n (neg_ℤ r) (neg_ℤ s) ≡ neg_ℤ (n r s)
+  pub none : (r s : ℤ) → IsNumber d r → IsNumber d s → ((k : ℤ) → ¬ IsSum d r s k) → n r s ≡ pos 0
+  pub swapped : (r s : ℤ) → IsNumber d r → IsNumber d s → n s r ≡ neg_ℤ (n r s)
+  pub opposite : (r s : ℤ) → IsNumber d r → IsNumber d s → n (neg_ℤ r) (neg_ℤ s) ≡ neg_ℤ (n r s)
 
 -- N_rs is p + 1 or its opposite, by the string of s along r
 abbrev pub IsUnitValue : RootDatum → Table → ℤ → ℤ → Type 0
@@ -125,4 +120,4 @@ pub record IsFirstFailure (d : RootDatum) (r s a e : ℤ) : Type 0 where
 
 -- two tables that stand for one datum are equal
 abbrev pub IsUnique : RootDatum → Type 0
-IsUnique d = (m n : Table) → StandsFor d m → StandsFor d n → (r s : ℤ) → IsNumber d r → IsNumber d s → s ≢ neg_ℤ r → m r s ≡ n r s
+IsUnique d = (m n : Table) → StandsFor d m → StandsFor d n → (r s : ℤ) → IsNumber d r → IsNumber d s → m r s ≡ n r s

@@ -43,7 +43,7 @@ impl Constants {
         Ok(Constants { values, terms })
     }
 
-    /// N_rs. At opposite roots the answer stands for nothing.
+    /// N_rs, which is 0 where r + s is no root.
     pub fn n(&self, r: RootId, s: RootId) -> i128
         requires r { unsigned_abs r ≤ self.now.positive }
         requires s { unsigned_abs s ≤ self.now.positive }

@@ -13,10 +13,10 @@ pub enum ConstFault {
     #[error("out of memory")]
     NoMemory,
     /// The first pair (r, s) whose forced value fails, with its equation N a = e.
-    #[error("the constant N of the roots {} and {} has no value: {} N = {}", .0.number(), .1.number(), .2, .3)]
+    #[error("the equation of the constant of two roots has no solution")]
     Constant(RootId, RootId, i128, i128),
     /// The first term that isn't whole, at i r + j s.
-    #[error("the coefficient of the term ({}, {}) of the roots {} and {} is not whole", .2, .3, .0.number(), .1.number())]
+    #[error("the coefficient of a term of two roots is not whole")]
     Fraction(RootId, RootId, u8, u8),
 }
 

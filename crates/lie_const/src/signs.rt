@@ -1,7 +1,8 @@
 //! The table of signs.
 
-ghost use Rattle.std.specs.Prelude.{◌≡◌, ◌≤◌, ◌⊎◌, pos, negsuc, unsigned_abs, length};
+ghost use Rattle.std.specs.Prelude.{◌≡◌, ◌≤◌, ◌<◌, ◌+◌, ◌-◌, ◌*◌, ◌⊎◌, pos, negsuc, unsigned_abs, length};
 ghost use Rattle.lie_datum.specs.RootDatum.{rank};
+ghost use Rattle.lie_datum.specs.Numbers.{place};
 ghost use Rattle.lie_const.specs.Signs.{IsSignList, eta_of};
 
 use lie_datum::{Datum, RootId};
@@ -17,6 +18,7 @@ pub struct Signs {
 
 impl Model for Signs {
     ghost use Rattle.std.specs.Prelude.{◌≤◌};
+    ghost use Rattle.lie_datum.specs.Numbers.{place};
     ghost use Rattle.lie_const.specs.Signs.{SignTable, IsSignList};
 
     ghost Value = { SignTable };
@@ -48,6 +50,17 @@ impl Signs {
         ensures value { result ≡ eta_of self.now i s }
         ensures unit { (result ≡ pos 1) ⊎ (result ≡ negsuc 0) }
     {
-        i128::from(self.signs[(i - 1) * (2 * self.positive) + s.place(self.positive)])
+        i128::from(self.signs[self.place(i, s)])
+    }
+
+    /// The place of i and s in the list, counted from 0.
+    fn place(&self, i: usize, s: RootId) -> usize
+        requires first { 1 ≤ i }
+        requires index { i ≤ self.now.rank }
+        requires s { unsigned_abs s ≤ self.now.positive }
+        ensures value { result ≡ (i - 1) * (2 * self.now.positive) + place self.now.positive s }
+        ensures within { result < length self.now.signs }
+    {
+        (i - 1) * (2 * self.positive) + s.place(self.positive)
     }
 }

@@ -6,9 +6,9 @@ ghost use Rattle.lie_orbit.specs.Weights.{IsMinuscule};
 ghost use Rattle.lie_orbit.specs.Orbits.{reflected_weight};
 ghost use Rattle.lie_orbit.specs.Growth.{IsGrowing, HasImage, HasImages, StartsWith, IsGrown, first_weight};
 
-use crate::vectors::{less_multiple, pairing};
+use crate::vectors::less_multiple;
 use indexmap::IndexSet;
-use lie_datum::{Datum, RootId, Vector, simples_first};
+use lie_datum::{Datum, RootId, Vector, pairing, simples_first};
 use std::alloc::{AllocError, Global};
 
 /// As many members of an orbit are kept at most.

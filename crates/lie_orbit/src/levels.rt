@@ -8,8 +8,7 @@ ghost use Rattle.lie_orbit.specs.Orbits.{IsOrbit, IsNear};
 ghost use Rattle.lie_orbit.specs.Growth.{IsGrowing, HasAllImages, first_weight};
 ghost use Rattle.lie_orbit.specs.Levels.{level, leveled_weight, IsLeveled};
 
-use crate::vectors::pairing;
-use lie_datum::{Datum, RootId, Vector};
+use lie_datum::{Datum, RootId, Vector, pairing};
 use std::alloc::{AllocError, Global};
 use std::cmp::Reverse;
 

@@ -6,8 +6,8 @@ ghost use Rattle.lie_datum.specs.RootList.{IsNumber};
 ghost use Rattle.lie_orbit.specs.Weights.{coroot_pairing, IsMinuscule};
 ghost use Rattle.lie_orbit.specs.Lowering.{IsHalf, IsHighRoot, IsLow, IsFirstHigh, less_root, Lowers};
 
-use crate::vectors::{less_multiple, pairing};
-use lie_datum::{Datum, RootId, Vector};
+use crate::vectors::less_multiple;
+use lie_datum::{Datum, RootId, Vector, pairing};
 
 /// The first root that pairs with a weight to 2 or more, if there is one.
 fn first_high(datum: &Datum, weight: &Vector) -> Option<RootId>

@@ -4,8 +4,7 @@ ghost use Rattle.std.specs.Prelude.{◌*◌, ◌^◌, MatchOption};
 ghost use Rattle.lie_datum.specs.RootDatum.{IsWithin};
 ghost use Rattle.lie_orbit.specs.Weights.{IsMinuscule, IsFirstLargePairing};
 
-use crate::vectors::pairing;
-use lie_datum::{Datum, RootId, Vector};
+use lie_datum::{Datum, RootId, Vector, pairing};
 
 /// The first root, in the full order, that pairs with the weight to more than 1 or less than -1; there
 /// is none where the weight is minuscule.

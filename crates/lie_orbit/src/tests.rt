@@ -3,8 +3,8 @@
 ghost use Rattle.std.specs.Prelude.{◌↔◌, IsTrue};
 ghost use Rattle.lie_datum.specs.RootDatum.{IsWithin};
 
-use crate::{lower, pairing};
-use lie_datum::{Datum, Vector};
+use crate::lower;
+use lie_datum::{Datum, Vector, pairing};
 use std::alloc::Global;
 use std::process::Abort;
 

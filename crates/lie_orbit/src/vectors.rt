@@ -1,23 +1,10 @@
 //! Operations on weights.
 
 ghost use Rattle.std.specs.Prelude.{◌≡◌, ◌≤◌, ◌*◌, ◌^◌, neg_ℤ, unsigned_abs};
-ghost use Rattle.lie_datum.specs.Vectors.{pairing, plus, times};
+ghost use Rattle.lie_datum.specs.Vectors.{plus, times};
 ghost use Rattle.lie_datum.specs.RootDatum.{IsWithin};
 
 use lie_datum::Vector;
-
-/// The pairing of a weight with a vector of Y: the sum of the products of entries.
-pub fn pairing(x: &Vector, y: &Vector) -> i128
-    requires x { IsWithin (25 * 10 ^ 31) x.now }
-    requires y { IsWithin 80000 y.now }
-    ensures { result ≡ pairing x.now y.now }
-{
-    let mut sum = 0;
-    for k in 0..8 {
-        sum += x[k] * y[k];
-    }
-    sum
-}
 
 /// A weight less a multiple of a root.
 pub fn less_multiple(weight: &Vector, by: i128, root: &Vector) -> Vector

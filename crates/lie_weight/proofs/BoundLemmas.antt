@@ -60,8 +60,8 @@ module _ (d : RootDatum) (loaded : IsLoaded d) (n : Table) (stands : StandsFor d
   -- on every pair whose sum is a root
   closed : IsClosed d (λ r s. unsigned_abs (n r s) ≤ 4)
   closed = record {
-    swapped = λ r s a b o l. subst (λ x. unsigned_abs x ≤ 4) (sym (stands.signs.swapped r s a b o)) (let m = l in omega (arith, ints, m));
-    opposite = λ r s a b o l. subst (λ x. unsigned_abs x ≤ 4) (sym (stands.signs.opposite r s a b o)) (let m = l in omega (arith, ints, m));
+    swapped = λ r s a b o l. subst (λ x. unsigned_abs x ≤ 4) (sym (stands.signs.swapped r s a b)) (let m = l in omega (arith, ints, m));
+    opposite = λ r s a b o l. subst (λ x. unsigned_abs x ≤ 4) (sym (stands.signs.opposite r s a b)) (let m = l in omega (arith, ints, m));
   }
 
   special_all : (r s k : ℤ) → IsSpecial d r s k → HoldsOn (λ r s. unsigned_abs (n r s) ≤ 4) r s k
@@ -78,7 +78,7 @@ module _ (d : RootDatum) (loaded : IsLoaded d) (n : Table) (stands : StandsFor d
   constant_small r s a b o = ⊎_elim
       (λ h. (let k = number_is d loaded h.0 h.1 in
       every_pair d loaded (λ r s. unsigned_abs (n r s) ≤ 4) closed special_all r s k.0 (record { left = a; right = b; number = k.1; is = ap (λ t. t.coeffs) k.2 ∙ h.2 })))
-      (λ f. (let e = stands.signs.none r s a b o (λ k h. f (root_of d k, root_is d loaded k h.number, h.is)) in subst (λ x. unsigned_abs x ≤ 4) (sym e) (omega arith)))
+      (λ f. (let e = stands.signs.none r s a b (λ k h. f (root_of d k, root_is d loaded k h.number, h.is)) in subst (λ x. unsigned_abs x ≤ 4) (sym e) (omega arith)))
       (root_or d loaded (plus (coeffs_of d r) (coeffs_of d s)))
 
   module _ (r s : ℤ) (pair : IsPair d r s) where

@@ -13,9 +13,9 @@ ghost use Rattle.lie_datum.specs.RootList.{IsNumber, root_of};
 ghost use Rattle.lie_weight.specs.OrbitModules.{step_matrix};
 
 use crate::rules::built;
-use lie_datum::{Datum, RootId, Vector};
+use lie_datum::{Datum, RootId, Vector, pairing};
 use lie_mat::{Entries, Mat};
-use lie_orbit::{less_multiple, pairing};
+use lie_orbit::less_multiple;
 use lie_ring::{Ints, RingStop};
 use std::alloc::{AllocError, Global};
 

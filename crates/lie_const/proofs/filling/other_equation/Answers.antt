@@ -1,4 +1,6 @@
-use Rattle.std.proofs.Common.{◌^◌, ◌≤◌, ℤ, neg_ℤ, ◌+ℤ◌, ◌*ℤ◌, ap, ◌∙◌, arith, lit<, unsigned_abs}
+use Rattle.std.proofs.Common.{◌^◌, ◌≤◌, ℕ, ℤ, neg_ℤ, ◌+ℤ◌, ◌*ℤ◌, ap, subst, sym, ◌∙◌, arith, lit<, unsigned_abs}
+use mir.Val.{to_z, of_z}
+use mir.Syntax.{w128}
 use Rattle.lie_const.specs.StructureConstants.{own, at_part, norm, gap}
 use Rattle.lie_const.proofs.FillLemmas.{forced_as}
 use Rattle.lie_const.specs.Filling.{table_in}
@@ -7,6 +9,18 @@ use Rattle.lie_const.proofs.SpecialLemmas.{abs_number, abs_opposite}
 use Rattle.lie_const.proofs.Kept.{three_kept, norm_bound, sum_fits, scaled_fits, scaled_kept}
 use Rattle.lie_const.proofs.filling.other_equation.Goals as goal
 use Rattle.lie_const.proofs.filling.other_equation.Goals.{After-length2}
+
+pub n-requires-clause-r : goal.n-requires-clause-r
+n-requires-clause-r c = abs_number c.args.datum.now c.args.values.now.positive c.args.s c.requires.count c.requires.special.sum.right
+
+pub n-requires-clause-s : goal.n-requires-clause-s
+n-requires-clause-s c = abs_opposite c.args.datum.now c.args.values.now.positive c.opposite.result c.args.r0 c.requires.count c.opposite.ensures c.requires.extraspecial.special.sum.left
+
+pub n-requires-2-clause-r : goal.n-requires-2-clause-r
+n-requires-2-clause-r c = abs_number c.args.datum.now c.args.values.now.positive c.args.r c.requires.count c.requires.special.sum.left
+
+pub n-requires-2-clause-s : goal.n-requires-2-clause-s
+n-requires-2-clause-s c = abs_opposite c.args.datum.now c.args.values.now.positive c.opposite-2.result c.args.s0 c.requires.count c.opposite-2.ensures c.requires.extraspecial.special.sum.right
 
 pub n-requires-3-clause-r : goal.n-requires-3-clause-r
 n-requires-3-clause-r c = abs_opposite c.args.datum.now c.args.values.now.positive c.opposite-3.result c.args.r0 c.requires.count c.opposite-3.ensures c.requires.extraspecial.special.sum.left
@@ -26,6 +40,40 @@ n-requires-5-clause-r c = abs_number c.args.datum.now c.args.values.now.positive
 pub n-requires-5-clause-s : goal.n-requires-5-clause-s
 n-requires-5-clause-s c = abs_number c.args.datum.now c.args.values.now.positive c.args.s0 c.requires.count c.requires.extraspecial.special.sum.right
 
+-- a value, and what the code passes of a number that is small
+small : (z : ℤ) → unsigned_abs z ≤ 128 → unsigned_abs z ≤ 2160
+small z l = omega (arith, l)
+
+kept : (z : ℤ) (n : ℕ) → unsigned_abs z ≤ n → n ≤ 2160 → unsigned_abs (to_z w128 (of_z w128 z)) ≤ 2160
+kept z n l m = let e = plain z 2160 (omega (arith, l, m)) (lit< tt) in subst (λ t. unsigned_abs t ≤ 2160) (sym e) (omega (arith, l, m))
+
+pub product-through_r-requires-clause-x : goal.product-through_r-requires-clause-x
+product-through_r-requires-clause-x c = kept c.n.result 128 c.n.ensures.bound (omega arith)
+
+pub product-through_r-requires-clause-y : goal.product-through_r-requires-clause-y
+product-through_r-requires-clause-y c = kept c.n-2.result 128 c.n-2.ensures.bound (omega arith)
+
+pub product-through_r-requires-clause-z : goal.product-through_r-requires-clause-z
+product-through_r-requires-clause-z c = kept c.gap-from_r.result 2160 c.gap-from_r.ensures.bound (omega arith)
+
+pub product-through_s-requires-clause-x : goal.product-through_s-requires-clause-x
+product-through_s-requires-clause-x c = kept c.n-3.result 128 c.n-3.ensures.bound (omega arith)
+
+pub product-through_s-requires-clause-y : goal.product-through_s-requires-clause-y
+product-through_s-requires-clause-y c = kept c.n-4.result 128 c.n-4.ensures.bound (omega arith)
+
+pub product-through_s-requires-clause-z : goal.product-through_s-requires-clause-z
+product-through_s-requires-clause-z c = kept c.gap-from_s.result 2160 c.gap-from_s.ensures.bound (omega arith)
+
+pub product-requires-clause-x : goal.product-requires-clause-x
+product-requires-clause-x c = kept c.n-5.result 128 c.n-5.ensures.bound (omega arith)
+
+pub product-requires-clause-y : goal.product-requires-clause-y
+product-requires-clause-y c = kept c.gap-from_s.result 2160 c.gap-from_s.ensures.bound (omega arith)
+
+pub product-requires-clause-z : goal.product-requires-clause-z
+product-requires-clause-z c = kept c.gap-from_r.result 2160 c.gap-from_r.ensures.bound (omega arith)
+
 length_bound : (c : After-length2) → unsigned_abs c.length2.result ≤ 2160
 length_bound c = norm_bound c.length2.result c.length2.ensures.positive c.length2.ensures.bound
 
@@ -34,10 +82,6 @@ overflow_add-result c = sum_fits c.length2.result c.product-through_r.result c.p
 
 pub overflow_mul-result : goal.overflow_mul-result
 overflow_mul-result c = scaled_fits c.length2.result c.product-through_r.result c.product-through_s.result (length_bound c) c.product-through_r.ensures.bound c.product-through_s.ensures.bound
-
--- a value read at the opposite of a root
-small : (z : ℤ) → unsigned_abs z ≤ 128 → unsigned_abs z ≤ 2160
-small z l = omega (arith, l)
 
 pub returns-clause-forced : goal.returns-clause-forced
 returns-clause-forced c =
