@@ -7,7 +7,6 @@ ghost use Rattle.lie_ring.specs.Matrices.{AllFit};
 use crate::Mat;
 use lie_ring::{Ints, RingStop};
 use std::alloc::{AllocError, Global};
-use std::test::Fail;
 
 /// The matrix with the rows `a b` and `c d`.
 fn square(alloc: Global, a: i8, b: i8, c: i8, d: i8) -> Result<Mat<Ints>, AllocError>
@@ -34,80 +33,49 @@ fn at(matrix: &Mat<Ints>, row: usize, col: usize) -> i128
     }
 }
 
-/// All entries, row after row.
-fn entries(alloc: Global, matrix: &Mat<Ints>) -> Result<Vec<i128>, AllocError> {
-    let mut list = Vec::new(alloc);
-    for row in 0..matrix.rows() {
-        for col in 0..matrix.cols() {
-            list.push(at(matrix, row, col))?;
+#[test]
+fn products_of_squares(rt: HostRuntime) {
+    let alloc = rt.alloc();
+    let upper = square(alloc, 1, 1, 0, 1).expect(&rt, "memory");
+    let lower = square(alloc, 1, 0, 1, 1).expect(&rt, "memory");
+    let product = upper.mul(alloc, &Ints, &lower).expect(&rt, "memory");
+    let expected = square(alloc, 2, 1, 1, 1).expect(&rt, "memory");
+    assert!(rt; product.same(&Ints, &expected) && !upper.same(&Ints, &lower));
+    let one = Mat::identity(alloc, &Ints, 1).expect(&rt, "memory");
+    let kron = product.kron(alloc, &Ints, &one).expect(&rt, "memory");
+    assert!(rt; kron.same(&Ints, &product));
+    let transpose = product.transpose(alloc, &Ints).expect(&rt, "memory");
+    assert!(rt; transpose.same(&Ints, &product));
+    let double = product.add(alloc, &Ints, &product).expect(&rt, "memory");
+    let expected = square(alloc, 4, 2, 2, 2).expect(&rt, "memory");
+    assert!(rt; double.same(&Ints, &expected));
+    let sum = product.direct_sum(alloc, &Ints, &one).expect(&rt, "memory");
+    assert_eq!(rt; (sum.rows(), sum.cols()), (3, 3));
+    // row, column, entry
+    let entries = [
+        (0, 0, 2),
+        (0, 1, 1),
+        (0, 2, 0),
+        (1, 0, 1),
+        (2, 1, 0),
+        (2, 2, 1),
+    ];
+    for (row, col, entry) in entries {
+        if row < 3 && col < 3 {
+            assert_eq!(rt; at(&sum, row, col), entry, "in row {row} and column {col}");
         }
     }
-    Ok(list)
 }
 
 #[test]
-fn operations_on_squares(rt: HostRuntime) -> Result<(), Fail> {
+fn other_calls(rt: HostRuntime) {
     let alloc = rt.alloc();
-    let a = square(alloc, 1, 2, 0, 3)?;
-    let b = square(alloc, 2, 0, -1, 1)?;
-    // the operation, its answer, and the rows of it
-    let cases = [
-        ("a b", a.mul(alloc, &Ints, &b)?, [0, 2, -3, 3].as_slice()),
-        ("b a", b.mul(alloc, &Ints, &a)?, [2, 4, -1, 1].as_slice()),
-        ("a + b", a.add(alloc, &Ints, &b)?, [3, 2, -1, 4].as_slice()),
-        (
-            "a transposed",
-            a.transpose(alloc, &Ints)?,
-            [1, 0, 2, 3].as_slice(),
-        ),
-        (
-            "a (x) b",
-            a.kron(alloc, &Ints, &b)?,
-            [2, 0, 4, 0, -1, 1, -2, 2, 0, 0, 6, 0, 0, 0, -3, 3].as_slice(),
-        ),
-        (
-            "a (+) b",
-            a.direct_sum(alloc, &Ints, &b)?,
-            [1, 2, 0, 0, 0, 3, 0, 0, 0, 0, 2, 0, 0, 0, -1, 1].as_slice(),
-        ),
-    ];
-    for (name, answer, rows) in &cases {
-        assert_eq!(rt; entries(alloc, answer)?.as_slice(), *rows, "{name}");
-    }
-    assert_eq!(rt;
-        a.apply(alloc, &Ints, &[5, -1])?.as_slice(),
-        [3, -3].as_slice()
-    );
-    Ok(())
-}
-
-#[test]
-fn entries_that_are_kept(rt: HostRuntime) -> Result<(), Fail> {
-    let matrix = square(rt.alloc(), 0, 4, 5, 6)?;
-    // column, from which row, the next row with an entry, and the entry
-    let cases = [
-        (0, 0, Some((1, 5))),
-        (1, 0, Some((0, 4))),
-        (1, 1, Some((1, 6))),
-        (0, 2, None),
-    ];
-    for (col, from, next) in cases {
-        if col < 2 {
-            let found = matrix.next_kept(from, col).map(|(row, e)| (row, *e));
-            assert_eq!(rt; found, next, "in column {col} from {from}");
-        }
-    }
-    Ok(())
-}
-
-#[test]
-fn wide_products(rt: HostRuntime) -> Result<(), Fail> {
-    let alloc = rt.alloc();
-    let mut large = Mat::zero(alloc, 1, 1)?;
-    large.set(&Ints, 0, 0, 1 << 100)?;
+    let product = square(alloc, 2, 1, 1, 1).expect(&rt, "memory");
+    let image = product.apply(alloc, &Ints, &[1, 1]).expect(&rt, "memory");
+    assert_eq!(rt; image.as_slice(), [3, 2].as_slice());
+    let mut large = Mat::zero(alloc, 1, 1).expect(&rt, "memory");
+    large.set(&Ints, 0, 0, 1 << 100).expect(&rt, "memory");
     assert!(rt; matches!(large.mul(alloc, &Ints, &large), Err(RingStop::Wide)));
-    assert!(rt; large.same(&Ints, &large));
-    Ok(())
 }
 
 #[test]

@@ -6,11 +6,9 @@ use Rattle.lie_datum.specs.RootDatum.{IsWithin}
 use Rattle.lie_datum.specs.RootList.{RootDatum}
 use Rattle.lie_datum.proofs.VectorLemmas.{entry_within}
 use Rattle.lie_orbit.specs.Weights.{IsMinuscule}
-use Rattle.lie_orbit.specs.Orbits.{IsOrbit, IsOrbitFault, IsNear}
-use Rattle.lie_orbit.specs.declared.faults.OrbitFault.{OrbitFault}
-use Rattle.lie_orbit.specs.declared.faults.OrbitFault.TheVariants as orbit
+use Rattle.lie_orbit.specs.Orbits.{start, IsOrbit, IsNear}
 use Rattle.lie_orbit.proofs.WeightLemmas.{from_entries}
-use Rattle.lie_weight.specs.OrbitFaults.{IsHeavyWeight, AreLight, LoadsOrbit, module_fault}
+use Rattle.lie_weight.specs.OrbitFaults.{IsHeavyWeight, AreLight, LoadsOrbit}
 use Rattle.lie_weight.specs.Completion.{IsConjugateFault}
 use Rattle.lie_weight.specs.declared.faults.ModuleFault.{ModuleFault}
 use Rattle.lie_weight.specs.declared.faults.ModuleFault.TheVariants.{NoMemory, NotMinuscule, Wide, Heavy, Huge}
@@ -31,6 +29,10 @@ are_light ws few small = record {
 pub near_small : (w : Vector) (ws : List Vector) → IsWithin 100 w → All (IsNear w 102400) ws → All (IsWithin 1000000) ws
 near_small w ws small near k z l = from_entries 1000000 (get_or ws k z) (λ j. (let a = near k z l j in let b = entry_within 100 w j small in omega (arith, a, b)))
 
+-- an orbit has its own weight
+pub orbit_some : (d : RootDatum) (w : Vector) (ws : List Vector) → IsOrbit d w ws → 1 ≤ length ws
+orbit_some d w ws o = let c = (o.members w).1 start in let l = c.1 in omega (arith, l)
+
 -- why the module of an orbit is not completed
 pub fault_loads : (d : RootDatum) (eta : Signs) (w : Vector) (v : Module) (e : ModuleFault) → IsMinuscule d w → IsOrbit d w v.weights → AreLight v.weights → IsConjugateFault d eta v e → LoadsOrbit d eta w (Err e)
 fault_loads d eta w v NoMemory m o l h = tt
@@ -38,8 +40,3 @@ fault_loads d eta w v (NotMinuscule r) m o l h = absurd h
 fault_loads d eta w v (Wide n) m o l h = absurd h
 fault_loads d eta w v (Heavy a) m o l h = absurd h
 fault_loads d eta w v (Huge r k) m o l h = (m, record { partial = v; weights = o; light = l; steps = h.0; completed = h.1; first = h.2 })
-
--- why the orbit is not listed
-pub unlisted_loads : (d : RootDatum) (eta : Signs) (w : Vector) (f : OrbitFault) → IsMinuscule d w → IsOrbitFault d w f → LoadsOrbit d eta w (Err (module_fault f))
-unlisted_loads d eta w orbit.NoMemory m h = tt
-unlisted_loads d eta w orbit.TooMany m h = (m, omega arith, h)

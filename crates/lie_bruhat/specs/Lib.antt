@@ -1,0 +1,3 @@
+pub mod WeylWords
+pub mod SignLaws
+pub mod Rules

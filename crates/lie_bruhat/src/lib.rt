@@ -1,0 +1,17 @@
+//! What follows from the relations S0 to S7 in every lawful frame: the rules of Weyl letters, and that each
+//! word has a Bruhat form.
+//!
+//! A form u h n_w v (`lie_unip`, `specs/Forms.antt`) stands for every word that its own word is joined to.
+//! The crate has laws alone, functions that do nothing and whose contracts are the statements of
+//! `specs/Rules.antt`: how `n_i` passes the torus, its square, opposite root letters, the words of the `n_i`
+//! along shortest words of one Weyl element, and words followed by their reversed words. No module is needed
+//! for any of them. `specs/WeylWords.antt` has the words of letters `n_i` and what they do to roots, signs and
+//! torus vectors. The crate stands on `lie_unip`, `lie_letters` and the crates below them.
+#![tactic(auto)]
+
+mod laws;
+
+pub use laws::{
+    every_word_has_form, inverse_weyl_letters, opposite_root_letters, reversed_cancels,
+    shortest_words_joined, weyl_letters_pass_torus, weyl_letters_squared,
+};
