@@ -1,0 +1,234 @@
+#!/usr/bin/env python3
+"""Writes docs/STATEMENT.md: the definitions on which the clauses of `lie` rest, in reading order, each with its file and its sentence.
+
+    python3 docs/statement.py            writes it
+    python3 docs/statement.py --check    compares it with the sources, and says what is missing
+    python3 docs/statement.py --apart    lists the files of specs/ that no public clause of any crate reaches
+"""
+import os
+import re
+import sys
+
+import sources
+from sources import Definition, Type
+
+TARGET = os.path.join(sources.TOP, "docs", "STATEMENT.md")
+# streams are read beside the session, which alone cites them
+LATE = ["lie_kit", "lie_session"]
+
+
+def anchor(heading):
+    return re.sub(r"[^\w\- ]", "", heading.lower()).replace(" ", "-")
+
+
+def cell(text):
+    return text.replace("|", "\\|")
+
+
+def top_call(repository):
+    for source in repository.sources["lie_session"]:
+        for call in source.calls:
+            if call.name == "lie" and not call.owner:
+                return call, source
+    sys.exit("the top call `lie` was not found")
+
+
+def traits_of(repository, call):
+    """The traits of this repository that bound the type parameters of a call."""
+    bounds = re.search(r"<([^>]*)>", call.text)
+    names = re.findall(r":\s*(\w+)", bounds[1]) if bounds else []
+    for name in names:
+        for crate in repository.below:
+            for source in repository.sources[crate]:
+                for it in source.types:
+                    if it.kind == "trait" and it.name == name:
+                        yield it, source
+
+
+def first_cited(repository):
+    """What the clauses of `lie` cite, and those of the traits of its source and sink."""
+    call, source = top_call(repository)
+    clauses = [(name, repository.cited(text, source.scope)) for kind, name, text in call.clauses]
+    found = [it for _, cited in clauses for it in cited]
+    for trait, where in traits_of(repository, call):
+        for method in where.calls:
+            if method.owner == trait.name:
+                for _, _, text in method.clauses:
+                    found += repository.cited(text, where.scope)
+    return clauses, found
+
+
+def in_reading_order(repository, files):
+    """The files of a crate, each behind those that it cites."""
+    order = []
+
+    def place(file, above=()):
+        if file in order or file in above:
+            return
+        for module, _ in file.scope.values():
+            other = repository.modules.get(module)
+            if other in files:
+                place(other, (*above, file))
+        order.append(file)
+
+    for file in files:
+        place(file)
+    return order
+
+
+def page(repository):
+    call, source = top_call(repository)
+    clauses, first = first_cited(repository)
+    reached = repository.reach(first)
+    definitions = [it for it in reached if isinstance(it, Definition) and it.kind != "abstract"]
+    types = [it for it in reached if isinstance(it, Type)]
+    traits = list(traits_of(repository, call))
+    files = {it.file for it in definitions}
+    order = sorted(repository.below, key=lambda crate: LATE.index(crate) if crate in LATE else -1)
+    bare = [it for it in definitions if not it.sentence] + [it for it in types if not it.sentence]
+
+    out = ["# What a reader must believe", ""]
+    out += [
+        "`lie` (`crates/lie_session/src/program.rt`) is the call that the program makes, and its clauses are what is proved of the program. This page",
+        f"has the {len(definitions)} definitions of {len(files)} files, and the {len(types)} types of the code, on which these clauses rest, in reading order: from numbers and fields to",
+        "replies. Who has read them knows what the clauses say. Bodies and lemmas need no reading: the prover checks them. What the clauses promise in",
+        "words stands in [PROVED.md](PROVED.md).",
+        "",
+        "The page is made by `docs/statement.py` from the sources; `python3 docs/statement.py --check` compares. Each sentence is the comment above its",
+        "definition.",
+        "",
+        "## The clauses",
+        "",
+        "| Clause of `lie` | Begins with |",
+        "|---|---|",
+    ]
+    for name, cited in clauses:
+        own = [it for it in cited if isinstance(it, (Definition, Type))]
+        names = ", ".join(f"[`{it.name}`](#{anchor(heading_of(it))})" for it in own)
+        out.append(f"| `{name}` | {names} |")
+    out += ["", "Files, in the order of this page:", ""]
+    body = []
+    for crate in order:
+        mine = in_reading_order(repository, [file for file in repository.specs[crate] if file in files])
+        own = [it for it in types if it.crate == crate]
+        told = [(trait, where) for trait, where in traits if trait.crate == crate]
+        if not mine and not own:
+            continue
+        body += ["", f"## {crate}", "", first_sentence(repository, crate)]
+        out.append(f"- [{crate}](#{anchor(crate)}): " + ", ".join(f"[{file.name}](#{anchor(f'{crate}: {file.name}')})" for file in mine))
+        for trait, where in told:
+            body += ["", f"### {crate}: {trait.name}", "", f"[{base(trait.path)}](../{trait.path}). {trait.sentence}", "", "| Member, clause | It says |", "|---|---|"]
+            for it in re.finditer(r"((?:[ ]*///[^\n]*\n)+)[ ]*ghost (\w+):", where.text[where.text.index(f"trait {trait.name}") :]):
+                said = " ".join(line.strip()[3:].strip() for line in it[1].strip().splitlines())
+                body.append(f"| `{it[2]}` | {cell(said)} |")
+            for method in where.calls:
+                if method.owner == trait.name:
+                    for kind, name, text in method.clauses:
+                        names = ", ".join(f"`{it.name}`" for it in repository.cited(text, where.scope) if isinstance(it, Definition))
+                        if names:
+                            body.append(f"| `{method.name}`, {kind} `{name}` | {names} |")
+        if own:
+            body += ["", f"### {crate}: types of the code", "", "| Type | It is |", "|---|---|"]
+            for it in sorted(own, key=lambda it: (it.path, it.line)):
+                body.append(f"| `{it.name}` in [{base(it.path)}](../{it.path}) | {cell(it.sentence)} |")
+        for file in mine:
+            body += ["", f"### {crate}: {file.name}", "", f"[{base(file.path)}](../{file.path}). {file.sentence()}", "", "| Definition | It says |", "|---|---|"]
+            for it in file.definitions.values():
+                if it in definitions:
+                    body.append(f"| `{it.name}` | {cell(it.sentence)} |")
+    out += body
+    library = {}
+    for it in definitions:
+        for found in repository.cites(it):
+            if isinstance(found, tuple):
+                library.setdefault(found[0].removeprefix("Rattle."), set()).add(found[1])
+    out += ["", "## Words of the kit's library", "", "The definitions use these words of the kit, which mean what they mean there.", ""]
+    for module in sorted(library):
+        if ".proofs." not in module:
+            out.append(f"- `{module}`: " + " ".join(f"`{name}`" for name in sorted(library[module])))
+    return "\n".join(out) + "\n", definitions, bare
+
+
+def heading_of(it):
+    return f"{it.file.crate}: {it.file.name}" if isinstance(it, Definition) else f"{it.crate}: types of the code"
+
+
+def base(path):
+    return path.partition("crates/")[2].partition("/")[2]
+
+
+def first_sentence(repository, crate):
+    for source in repository.sources[crate]:
+        if source.path.endswith(("src/lib.rt", "src/main.rt")):
+            lines = []
+            for line in source.text.splitlines():
+                if not line.startswith("//!") or line == "//!":
+                    break
+                lines.append(line[3:].strip())
+            return " ".join(lines)
+    return ""
+
+
+def public_reach(repository):
+    """What the public clauses of all crates reach."""
+    first = []
+    for crate in repository.below:
+        public = {id(it) for it in repository.public_calls(crate)}
+        for source in repository.sources[crate]:
+            is_program = source.path.endswith("main.rt")
+            for call in source.calls:
+                if id(call) in public or is_program:
+                    for _, _, text in call.clauses:
+                        first += repository.cited(text, source.scope)
+            for owner, trait, name, text, local in source.ghosts:
+                names = [re.match(r"\w+", it)[0] for it in (owner, trait) if it and re.match(r"\w+", it)]
+                if any(it in repository.exported[crate] for it in names) and (trait != "Model" or name == "Value"):
+                    first += repository.cited(text, {**source.scope, **local})
+    return repository.reach(first)
+
+
+def apart(repository):
+    """Each file of specs/, whether a public clause reaches it, and whether its head says that none does: `no public clause cites it`."""
+    reached = {id(it.file) for it in public_reach(repository) if isinstance(it, Definition) and it.kind != "abstract"}
+    for crate in repository.below:
+        for file in repository.specs[crate]:
+            says = any("no public clause cites it" in line for line in file.head)
+            yield file, id(file) in reached, says
+
+
+def main(words):
+    repository = sources.Repository()
+    if words == ["--apart"]:
+        for file, is_reached, says in apart(repository):
+            if not is_reached:
+                print(f"{'says so' if says else 'SILENT '}  {file.path}")
+            elif says:
+                print(f"REACHED  {file.path}")
+        return 0
+    text, definitions, bare = page(repository)
+    status = 0
+    for path, module, name in repository.unresolved():
+        print(f"{path} takes {name} of {module}, which this reader does not find")
+        status = 1
+    for it in bare:
+        print(f"no sentence above {it!r}")
+    silent = [file.path for file, is_reached, says in apart(repository) if is_reached == says]
+    if silent:
+        print(f"{len(silent)} files of specs/ have no head that says rightly whether a public clause cites them: docs/statement.py --apart lists them")
+        status = 1
+    if words == ["--check"]:
+        old = open(TARGET, encoding="utf-8").read() if os.path.exists(TARGET) else ""
+        if old != text:
+            print("docs/STATEMENT.md is not what the sources give: run python3 docs/statement.py")
+            status = 1
+        missing = [it for it in definitions if f"| `{it.name}` |" not in old]
+        print(f"{len(definitions)} definitions, {len(missing)} of them missing from docs/STATEMENT.md")
+        return status or bool(missing)
+    with open(TARGET, "w", encoding="utf-8") as file:
+        file.write(text)
+    print(f"docs/STATEMENT.md: {len(definitions)} definitions")
+    return status
+
+
+if __name__ == "__main__":
+    sys.exit(main(sys.argv[1:]))
