@@ -16,7 +16,7 @@ use crate::{A_2, A_3, A_5, B_3, C_3, D_4, E_6, G_2, NamedDatum};
 use lie_const::Constants;
 use lie_datum::{Datum, RootId};
 use lie_field::{Fe, Field};
-use lie_ring::{FromIntegers, Ints};
+use lie_ring::FromIntegers;
 use lie_unip::{Unip, carries_answers, collects_once, drops_zeros, joins_answers};
 use lie_weyl::Weyl;
 use std::alloc::Global;
@@ -181,13 +181,10 @@ fn parts_in_a2(rt: HostRuntime) {
 }
 
 #[test]
-fn laws_at_a_datum(rt: HostRuntime) {
-    let alloc = rt.alloc();
-    let field = prime_field(&rt, alloc, 5);
-    let datum = load(&rt, alloc, &A_2);
-    let consts = constants(&rt, alloc, &datum);
-    collects_once(&field, &datum, &consts);
-    drops_zeros(&field, &datum, &consts);
-    joins_answers(&field, &datum, &consts);
-    carries_answers(&FromIntegers::new(&Ints, &field), &consts);
+fn laws_over_a_field(rt: HostRuntime) {
+    let _ = rt;
+    collects_once::<Field>();
+    drops_zeros::<Field>();
+    joins_answers::<Field>();
+    carries_answers::<FromIntegers<'_, Field>>();
 }

@@ -276,6 +276,35 @@ module _ {A : Type 0} (R : RingOn A) (ring : IsRing R) where
           lighter = omega (arith, one);
         }
 
+-- a letter has passed all places from one on where these have 0
+pub lifted_none : {A : Type 0} (R : RingOn A) (m : ℕ) (terms : ℕ → ℕ → List CommutatorTerm) (kept : ℕ → Bool) (ks : List ℕ) (r i : ℕ) (a : A) (c : List A) (w : List (RingLetter A))
+    → AreEntries R (length ks) c → ZeroFrom R i c → IsRingWord R m (reverse w) → AreLifted R terms m kept ks r a i c c w w
+lifted_none R m terms kept ks r i a c w entries zeros lw = record {
+  entries = entries;
+  before = λ j l. refl;
+  after = zeros;
+  lawful = lw;
+  leads = λ u d. d;
+  lighter = omega arith;
+}
+
+-- a place in front of those that have 0 is changed, and these still have 0
+pub zeros_behind : {A : Type 0} (R : RingOn A) (c : List A) (p i : ℕ) (x : A) → p < i → ZeroFrom R i c → ZeroFrom R i (set c p x)
+zeros_behind R c p i x h zeros j l =
+    let other : j ≢ p = λ s. absurd (omega (arith, l, h, s)) in
+    get_or-set_other c p j x R.zero other ∙ zeros j l
+
+-- one more place has 0
+pub zeros_more : {A : Type 0} (R : RingOn A) (c : List A) (k i : ℕ) → k ≡ i + 1 → get_or c i R.zero ≡ R.zero → ZeroFrom R k c → ZeroFrom R i c
+zeros_more R c k i h here zeros j l = go (side j l)
+  where
+    side : (j : ℕ) → i ≤ j → (j ≡ i) ⊎ (i < j)
+    side j l = grind (arith, l)
+
+    go : (j ≡ i) ⊎ (i < j) → get_or c j R.zero ≡ R.zero
+    go (inl e) = ap (λ n. get_or c n R.zero) e ∙ here
+    go (inr s) = zeros j (omega (arith, s, h))
+
 -- one more place without a trace
 pub idle_more : {A : Type 0} (R : RingOn A) (terms : ℕ → ℕ → List CommutatorTerm) (r : ℕ) (ks : List ℕ) (i k : ℕ) (c : List A) → IdleBetween R terms r ks i k c
     → (get_or c k R.zero ≡ R.zero) ⊎ (terms_between terms r (get_or ks k 0) ≡ []) → IdleBetween R terms r ks i (k + 1) c

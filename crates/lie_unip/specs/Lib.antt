@@ -3,3 +3,4 @@ pub mod Dropping
 pub mod Splitting
 pub mod Placing
 pub mod Laws
+pub mod PositiveLetters
