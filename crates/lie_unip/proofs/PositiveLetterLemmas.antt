@@ -1,5 +1,5 @@
 -- Letters at positive roots are letters over the ring.
-use Rattle.std.proofs.Common.{ℕ, ℤ, List, [], ◌∷◌, length}
+use Rattle.std.proofs.Common.{ℤ, List, [], ◌∷◌, length}
 use Rattle.std.specs.List.{AllByRecursion}
 use Rattle.lie_ring.specs.Rings.{RingOn, Fits}
 use Rattle.lie_datum.specs.RootList.{RootDatum}

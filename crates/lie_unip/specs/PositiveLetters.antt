@@ -1,5 +1,5 @@
 -- Letters at positive roots, by signed numbers.
-use Rattle.std.specs.Prelude.{ℕ, ℤ, pos, ◌<ℤ◌, nat_abs, List, map}
+use Rattle.std.specs.Prelude.{ℤ, pos, ◌<ℤ◌, nat_abs, List, map}
 use Rattle.std.specs.List.{AllByRecursion}
 use Rattle.lie_datum.specs.RootList.{RootDatum, IsNumber}
 use Rattle.lie_ring.specs.Rings.{RingOn, Fits}
