@@ -1,7 +1,7 @@
-use Rattle.std.proofs.Common.{◌≡◌, ◌+◌, ◌<◌, ◌≤◌, length, get_or, sym, ◌∙◌, arith}
+use Rattle.std.proofs.Common.{◌≡◌, ◌+◌, ◌<◌, length, get_or, sym, ◌∙◌, arith}
 use Rattle.std.proofs.lemmas.List.{get_or_read}
 use Rattle.lie_letters.specs.PositiveTerms.{positive_terms}
-use Rattle.lie_unip.proofs.RowLemmas.{walked_none, walked_on, walked_idle, walked_within, walked_all, idle_fewer}
+use Rattle.lie_unip.proofs.RowLemmas.{walked_none, walked_on, walked_idle, walked_all, idle_fewer}
 use Rattle.lie_unip.proofs.collector.Collector.first_of_row.Goals as goal
 
 pub loop-i-init : goal.loop-i-init
