@@ -17,7 +17,6 @@ use test_cases::NamedDatum;
 pub struct Roots {
     pub datum: Datum,
     pub consts: Constants,
-    ghost loads: { LoadsConstants datum (Ok consts) },
     ghost positive: { consts.positive ≡ length datum.positive },
 }
 
@@ -65,6 +64,16 @@ fn with_constants(
             answer.debug(&fault)?;
             Ok(None)
         }
+    }
+}
+
+/// The constants of a datum once more, with what is known of them.
+pub fn constants(alloc: Global, datum: &Datum) -> Result<Constants, Stop>
+    ensures { IfOk result (λ c. LoadsConstants datum.now (Ok c)) }
+{
+    match Constants::load(alloc, datum) {
+        Ok(consts) => Ok(consts),
+        Err(_) => Err(Stop::NoQuestion),
     }
 }
 

@@ -1,5 +1,7 @@
 //! Why a row has no answer.
 
+ghost use Rattle.std.specs.Prelude.{◌≡◌};
+
 use std::alloc::{AllocError, AllocFailed};
 use std::num::ParseIntError;
 use thiserror::Error;
