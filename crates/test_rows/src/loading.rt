@@ -7,7 +7,7 @@ ghost use Rattle.lie_const.specs.ConstantTables.{LoadsConstants};
 
 use crate::answers::{Answer, index, padded, read_lists};
 use crate::stops::Stop;
-use lie_const::Constants;
+use lie_const::{ConstFault, Constants};
 use lie_datum::{Datum, DatumFault, RootId, Vector};
 use std::alloc::{AllocError, Global};
 use test_cases::NamedDatum;
@@ -47,13 +47,20 @@ fn datum_of(
     Datum::load(alloc, d, roots, coroots)
 }
 
+/// `Constants::load` with one clause.
+fn constants_of(alloc: Global, datum: &Datum) -> Result<Constants, ConstFault>
+    ensures { IfOk result (λ c. c.positive ≡ length datum.now.positive) }
+{
+    Constants::load(alloc, datum)
+}
+
 /// The datum with its constants; writes its sizes, or the fault of its constants.
 fn with_constants(
     alloc: Global,
     datum: Datum,
     answer: &mut Answer,
 ) -> Result<Option<Roots>, AllocError> {
-    match Constants::load(alloc, &datum) {
+    match constants_of(alloc, &datum) {
         Ok(consts) => {
             answer.number(datum.d() as i128)?;
             answer.next(&[datum.l() as i128])?;
