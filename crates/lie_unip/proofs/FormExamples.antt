@@ -1,5 +1,5 @@
 -- Bruhat forms at work: A_1 over the field of two, where w = s_1 makes the one positive root negative, and w = 1 keeps it.
-use Rattle.std.proofs.Common.{◌≡◌, ◌-◌, ℕ, zero, suc, ℤ, pos, negsuc, Bool, false, true, not, List, [], ◌∷◌, refl, sym, ap, arith}
+use Rattle.std.proofs.Common.{◌≡◌, ◌-◌, ℕ, zero, suc, ℤ, pos, negsuc, Bool, false, not, [], ◌∷◌, refl, sym, ap, arith}
 use Rattle.std.specs.Prelude.{slice_index_or}
 use Rattle.std.proofs.lemmas.List.Elements.{All-cons, All-nil}
 use Rattle.lie_ring.specs.Rings.{Fits}
