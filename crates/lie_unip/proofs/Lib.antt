@@ -19,3 +19,5 @@ mod WorkedExamples
 pub mod FrontLemmas
 pub mod PositiveLetterLemmas
 pub mod RowLemmas
+pub mod FormLemmas
+mod FormExamples
