@@ -24,7 +24,7 @@ use Rattle.lie_const.specs.ConstantTables.{ConstantTable, value_of, terms_of, Lo
 use Rattle.lie_datum.proofs.RootOrder.{same_vector-true, same_vector-self}
 use Rattle.lie_datum.proofs.LoadedTest.{each_below, each_at}
 
-same_or : (a b : Bool) → (a || b) ≡ true → a ≡ false → b ≡ true
+pub same_or : (a b : Bool) → (a || b) ≡ true → a ≡ false → b ≡ true
 same_or true b e h = absurd (true≢false h)
 same_or false b e h = e
 
@@ -66,7 +66,7 @@ some_from (suc n) t k l e =
 -- ---- the tests
 module _ (d : RootDatum) where
   -- each number of a root, and each positive one
-  abbrev each_number : (ℤ → Bool) → Bool
+  abbrev pub each_number : (ℤ → Bool) → Bool
   each_number t = each_below (length d.positive) (λ k. t (pos (suc k)) && t (negsuc k))
 
   abbrev each_positive : (ℤ → Bool) → Bool
@@ -155,7 +155,7 @@ constants_test d c =
 
 -- ---- what the tests say
 module _ (d : RootDatum) where
-  number_at : (t : ℤ → Bool) → each_number d t ≡ true → (k : ℤ) → IsNumber d k → t k ≡ true
+  pub number_at : (t : ℤ → Bool) → each_number d t ≡ true → (k : ℤ) → IsNumber d k → t k ≡ true
   number_at t e (pos zero) h = cc
   number_at t e (pos (suc k)) h =
       (and_parts (t (pos (suc k))) (t (negsuc k)) (each_at (length d.positive) (λ k. t (pos (suc k)) && t (negsuc k)) e k (within d.positive k h))).0
@@ -170,7 +170,7 @@ module _ (d : RootDatum) where
   int_lt-true : (a b : ℤ) → a <ℤ b → int_lt a b ≡ true
   int_lt-true a b l = ⊎_elim (λ (e : int_lt a b ≡ true). e) (λ (e : int_lt a b ≡ false). absurd (omega (arith, ints, l, e))) (cases_Bool (int_lt a b))
 
-  is_equal : (a b : ℤ) → int_eq a b ≡ true → a ≡ b
+  pub is_equal : (a b : ℤ) → int_eq a b ≡ true → a ≡ b
   is_equal a b e = (Decides-int_eq a b).0 e
 
   not_equal : (a b : ℤ) → a ≢ b → int_eq a b ≡ false

@@ -4,7 +4,7 @@ use Rattle.std.proofs.lemmas.Bool.Decides.{nat_tests}
 use Rattle.std.specs.Option.{option_map}
 use Rattle.std.specs.Prelude.{nat_lt}
 use Rattle.lie_ring.specs.Rings.{RingOn}
-use Rattle.lie_letters.specs.RingLetters.{RingLetter, CommutatorTerm, term_letters, inverted, Within}
+use Rattle.lie_letters.specs.RingLetters.{RingLetter, CommutatorTerm, term_word, inverse_word, Within}
 use Rattle.lie_unip.specs.Collection.{replacement, next_word, rewritten, ComeAfter, AreCollectable}
 
 -- a word, if there is one, is at the first m roots
@@ -19,14 +19,14 @@ module _ {A : Type 0} (R : RingOn A) (m : ℕ) where
   Within-append (x ∷ v) w p q = (p.0, p.1, Within-append v w p.2 q)
 
   -- the letters of terms that come after s
-  pub Within-terms : (s : ℕ) (cs : List CommutatorTerm) (t u : A) → ComeAfter m s cs → Within m (term_letters R cs t u)
+  pub Within-terms : (s : ℕ) (cs : List CommutatorTerm) (t u : A) → ComeAfter m s cs → Within m (term_word R cs t u)
   Within-terms s [] t u h = tt
   Within-terms s (c ∷ cs) t u h = (omega (arith, h.0), h.1, Within-terms s cs t u h.4)
 
   -- the inverse letters
-  pub Within-inverted : (w : List (RingLetter A)) → Within m w → Within m (inverted R w)
-  Within-inverted [] h = tt
-  Within-inverted (x ∷ w) h = Within-append (inverted R w) ((x.0, R.neg x.1) ∷ []) (Within-inverted w h.2) (h.0, h.1, tt)
+  pub Within-inverse_word : (w : List (RingLetter A)) → Within m w → Within m (inverse_word R w)
+  Within-inverse_word [] h = tt
+  Within-inverse_word (x ∷ w) h = Within-append (inverse_word R w) ((x.0, R.neg x.1) ∷ []) (Within-inverse_word w h.2) (h.0, h.1, tt)
 
   module _ (terms : ℕ → ℕ → List CommutatorTerm) (before : ℕ → ℕ → Bool) (collectable : AreCollectable m terms) where
     -- what takes the place of two neighbours
@@ -34,14 +34,14 @@ module _ {A : Type 0} (R : RingOn A) (m : ℕ) where
     Within-replacement x y h = go (eqb x.0 y.0) refl (nat_lt y.0 x.0) refl
       where
         go : (b : Bool) → eqb x.0 y.0 ≡ b → (c : Bool) → nat_lt y.0 x.0 ≡ c
-            → Within m (cond b ((x.0, R.add x.1 y.1) ∷ []) (cond c (y ∷ x ∷ term_letters R (terms y.0 x.0) y.1 x.1) (y ∷ x ∷ inverted R (term_letters R (terms x.0 y.0) x.1 y.1))))
+            → Within m (cond b ((x.0, R.add x.1 y.1) ∷ []) (cond c (y ∷ x ∷ term_word R (terms y.0 x.0) y.1 x.1) (y ∷ x ∷ inverse_word R (term_word R (terms x.0 y.0) x.1 y.1))))
         go true e c f = (h.0, h.1, tt)
         go false e true f =
             let below : y.0 < x.0 = grind (arith, nat_tests) in
             (h.2.0, h.2.1, (h.0, h.1, Within-terms x.0 (terms y.0 x.0) y.1 x.1 (collectable.later y.0 x.0 h.2.0 below h.1)))
         go false e false f =
             let below : x.0 < y.0 = grind (arith, nat_tests) in
-            (h.2.0, h.2.1, (h.0, h.1, Within-inverted (term_letters R (terms x.0 y.0) x.1 y.1) (Within-terms y.0 (terms x.0 y.0) x.1 y.1 (collectable.later x.0 y.0 h.0 below h.2.1))))
+            (h.2.0, h.2.1, (h.0, h.1, Within-inverse_word (term_word R (terms x.0 y.0) x.1 y.1) (Within-terms y.0 (terms x.0 y.0) x.1 y.1 (collectable.later x.0 y.0 h.0 below h.2.1))))
 
     put_first-within : (x : RingLetter A) → 1 ≤ x.0 → x.0 ≤ m → (o : Option (List (RingLetter A))) → SomeWithin m o → SomeWithin m (option_map (λ v. x ∷ v) o)
     put_first-within x a b None q = tt

@@ -9,8 +9,8 @@ use Rattle.lie_unip.specs.Splitting.{kept_first, chosen}
 use Rattle.std.specs.List.{All}
 use Rattle.lie_ring.specs.Rings.{RingOn, IsElem, IsRing, IsHom, Fits}
 use Rattle.lie_ring.specs.HomLemmas.{hom_neg, hom_int}
-use Rattle.lie_unip.proofs.ElementLemmas.{SomeOf, OfElements-append, inverted-elem, power-elem, term_letters-elem, rewritten-elem}
-use Rattle.lie_letters.specs.RingLetters.{OfElements, full_from, full_word, RingLetter, CommutatorTerm, power, term_letters, inverted}
+use Rattle.lie_unip.proofs.ElementLemmas.{SomeOf, OfElements-append, inverse_word-elem, power-elem, term_word-elem, rewritten-elem}
+use Rattle.lie_letters.specs.RingLetters.{OfElements, full_from, full_word, RingLetter, CommutatorTerm, power, term_word, inverse_word}
 use Rattle.lie_unip.specs.Collection.{replacement, next_word, rewritten, Ends, at_end, by_step, elements, IsCollected}
 
 -- ---- one list
@@ -41,14 +41,14 @@ module _ {A B : Type 0} (R : RingOn A) (S : RingOn B) (h : A → B) (ring : IsRi
   hom_power a zero p = hom.one
   hom_power a (suc n) p = hom.mul (power R a n) a (power-elem R ring a n p) p ∙ ap (λ z. S.mul z (h a)) (hom_power a n p)
 
-  carried-term_letters : (cs : List CommutatorTerm) (t u : A) → IsElem R t → IsElem R u → carried h (term_letters R cs t u) ≡ term_letters S cs (h t) (h u)
-  carried-term_letters [] t u p q = refl
-  carried-term_letters (c ∷ cs) t u p q =
+  carried-term_word : (cs : List CommutatorTerm) (t u : A) → IsElem R t → IsElem R u → carried h (term_word R cs t u) ≡ term_word S cs (h t) (h u)
+  carried-term_word [] t u p q = refl
+  carried-term_word (c ∷ cs) t u p q =
       let tp = power R (R.neg t) c.i in
       let up = power R u c.j in
       let te = power-elem R ring (R.neg t) c.i (ring.laws.neg_elem t p) in
       let ue = power-elem R ring u c.j q in
-      let tail = carried-term_letters cs t u p q in
+      let tail = carried-term_word cs t u p q in
       let value : h (R.mul (R.of_int c.value) (R.mul tp up)) ≡ S.mul (S.of_int c.value) (S.mul (power S (S.neg (h t)) c.i) (power S (h u) c.j)) =
       hom.mul (R.of_int c.value) (R.mul tp up) (ring.integers.int_elem c.value) (ring.laws.mul_elem tp up te ue)
       ∙ ap₂ S.mul (hom_int R S h ring target hom c.value)
@@ -56,11 +56,11 @@ module _ {A B : Type 0} (R : RingOn A) (S : RingOn B) (h : A → B) (ring : IsRi
       ap₂ (λ (b : B) (w : List (RingLetter B)). (c.root, b) ∷ w) value tail
 
   -- the image of the inverse letters has the inverses of the images
-  pub carried-inverted : (w : List (RingLetter A)) → OfElements R w → carried h (inverted R w) ≡ inverted S (carried h w)
-  carried-inverted [] p = refl
-  carried-inverted (x ∷ w) p =
-      carried-append h (inverted R w) ((x.0, R.neg x.1) ∷ [])
-      ∙ ap₂ (λ (v : List (RingLetter B)) (b : B). v ++ (x.0, b) ∷ []) (carried-inverted w p.1) (hom_neg R S h ring target hom x.1 p.0)
+  pub carried-inverse_word : (w : List (RingLetter A)) → OfElements R w → carried h (inverse_word R w) ≡ inverse_word S (carried h w)
+  carried-inverse_word [] p = refl
+  carried-inverse_word (x ∷ w) p =
+      carried-append h (inverse_word R w) ((x.0, R.neg x.1) ∷ [])
+      ∙ ap₂ (λ (v : List (RingLetter B)) (b : B). v ++ (x.0, b) ∷ []) (carried-inverse_word w p.1) (hom_neg R S h ring target hom x.1 p.0)
 
   put_first : (x : RingLetter A) (o : Option (List (RingLetter A))) → option_map (λ v. (x.0, h x.1) ∷ v) (option_map (carried h) o) ≡ option_map (carried h) (option_map (λ v. x ∷ v) o)
   put_first x None = refl
@@ -68,14 +68,14 @@ module _ {A B : Type 0} (R : RingOn A) (S : RingOn B) (h : A → B) (ring : IsRi
 
   module _ (terms : ℕ → ℕ → List CommutatorTerm) (before : ℕ → ℕ → Bool) where
     carried-replacement : (x y : RingLetter A) → IsElem R x.1 → IsElem R y.1 → carried h (replacement R terms x y) ≡ replacement S terms (x.0, h x.1) (y.0, h y.1)
-    carried-replacement x y p q = elim (eqb x.0 y.0) as (λ b. carried h (cond b ((x.0, R.add x.1 y.1) ∷ []) (cond (nat_lt y.0 x.0) (y ∷ x ∷ term_letters R (terms y.0 x.0) y.1 x.1) (y ∷ x ∷ inverted R (term_letters R (terms x.0 y.0) x.1 y.1))))
-        ≡ cond b ((x.0, S.add (h x.1) (h y.1)) ∷ []) (cond (nat_lt y.0 x.0) ((y.0, h y.1) ∷ (x.0, h x.1) ∷ term_letters S (terms y.0 x.0) (h y.1) (h x.1)) ((y.0, h y.1) ∷ (x.0, h x.1) ∷ inverted S (term_letters S (terms x.0 y.0) (h x.1) (h y.1))))) [
+    carried-replacement x y p q = elim (eqb x.0 y.0) as (λ b. carried h (cond b ((x.0, R.add x.1 y.1) ∷ []) (cond (nat_lt y.0 x.0) (y ∷ x ∷ term_word R (terms y.0 x.0) y.1 x.1) (y ∷ x ∷ inverse_word R (term_word R (terms x.0 y.0) x.1 y.1))))
+        ≡ cond b ((x.0, S.add (h x.1) (h y.1)) ∷ []) (cond (nat_lt y.0 x.0) ((y.0, h y.1) ∷ (x.0, h x.1) ∷ term_word S (terms y.0 x.0) (h y.1) (h x.1)) ((y.0, h y.1) ∷ (x.0, h x.1) ∷ inverse_word S (term_word S (terms x.0 y.0) (h x.1) (h y.1))))) [
           | true ↦ ap (λ (b : B). (x.0, b) ∷ []) (hom.add x.1 y.1 p q)
-          | false ↦ elim (nat_lt y.0 x.0) as (λ b. carried h (cond b (y ∷ x ∷ term_letters R (terms y.0 x.0) y.1 x.1) (y ∷ x ∷ inverted R (term_letters R (terms x.0 y.0) x.1 y.1)))
-              ≡ cond b ((y.0, h y.1) ∷ (x.0, h x.1) ∷ term_letters S (terms y.0 x.0) (h y.1) (h x.1)) ((y.0, h y.1) ∷ (x.0, h x.1) ∷ inverted S (term_letters S (terms x.0 y.0) (h x.1) (h y.1)))) [
-                | true ↦ ap (λ (v : List (RingLetter B)). (y.0, h y.1) ∷ (x.0, h x.1) ∷ v) (carried-term_letters (terms y.0 x.0) y.1 x.1 q p)
+          | false ↦ elim (nat_lt y.0 x.0) as (λ b. carried h (cond b (y ∷ x ∷ term_word R (terms y.0 x.0) y.1 x.1) (y ∷ x ∷ inverse_word R (term_word R (terms x.0 y.0) x.1 y.1)))
+              ≡ cond b ((y.0, h y.1) ∷ (x.0, h x.1) ∷ term_word S (terms y.0 x.0) (h y.1) (h x.1)) ((y.0, h y.1) ∷ (x.0, h x.1) ∷ inverse_word S (term_word S (terms x.0 y.0) (h x.1) (h y.1)))) [
+                | true ↦ ap (λ (v : List (RingLetter B)). (y.0, h y.1) ∷ (x.0, h x.1) ∷ v) (carried-term_word (terms y.0 x.0) y.1 x.1 q p)
                 | false ↦ ap (λ (v : List (RingLetter B)). (y.0, h y.1) ∷ (x.0, h x.1) ∷ v)
-                    (carried-inverted (term_letters R (terms x.0 y.0) x.1 y.1) (term_letters-elem R ring (terms x.0 y.0) x.1 y.1 p q) ∙ ap (inverted S) (carried-term_letters (terms x.0 y.0) x.1 y.1 p q))
+                    (carried-inverse_word (term_word R (terms x.0 y.0) x.1 y.1) (term_word-elem R ring (terms x.0 y.0) x.1 y.1 p q) ∙ ap (inverse_word S) (carried-term_word (terms x.0 y.0) x.1 y.1 p q))
               ]
         ]
 
@@ -153,10 +153,10 @@ module _ {A B : Type 0} (R : RingOn A) (S : RingOn B) (h : A → B) (ring : IsRi
         answer_carried R S h ring target hom terms nat_lt m (full_word u ++ full_word v) (full_word (map h u) ++ full_word (map h v)) w z
         (OfElements-append R (full_word u) (full_word v) (full_elements 1 u e.fit) (full_elements 1 v f.fit))
         (carried-append h (full_word u) (full_word v) ∙ ap₂ ◌++◌ (carried-full_from R S h ring target hom terms nat_lt 1 u) (carried-full_from R S h ring target hom terms nat_lt 1 v)) c d;
-    inverted = λ m u v z e c d.
-        answer_carried R S h ring target hom terms nat_lt m (inverted R (full_word u)) (inverted S (full_word (map h u))) v z
-        (inverted-elem R ring (full_word u) (full_elements 1 u e.fit))
-        (carried-inverted R S h ring target hom (full_word u) (full_elements 1 u e.fit) ∙ ap (inverted S) (carried-full_from R S h ring target hom terms nat_lt 1 u)) c d;
+    inverse_word = λ m u v z e c d.
+        answer_carried R S h ring target hom terms nat_lt m (inverse_word R (full_word u)) (inverse_word S (full_word (map h u))) v z
+        (inverse_word-elem R ring (full_word u) (full_elements 1 u e.fit))
+        (carried-inverse_word R S h ring target hom (full_word u) (full_elements 1 u e.fit) ∙ ap (inverse_word S) (carried-full_from R S h ring target hom terms nat_lt 1 u)) c d;
     split = λ m kept u v w x y e s t.
         let whole = answer_carried R S h ring target hom terms (kept_first kept) m (full_word u) (full_word (map h u)) s.whole t.whole (full_elements 1 u e.fit)
         (carried-full_from R S h ring target hom terms nat_lt 1 u) s.collected t.collected in (

@@ -94,6 +94,10 @@ module _ (d : RootDatum) (loaded : IsLoaded d) (t : ConstantTable) (loads : Load
         omega (arith, long, count, few);
   }
 
+  -- the same by the number of the datum's positive roots
+  pub datum_collectable : AreCollectable (length d.positive) (positive_terms t)
+  datum_collectable = subst (λ n. AreCollectable n (positive_terms t)) loads.0 table_collectable
+
   module _ (word : List ℕ) (letters : AreLetters d.base word) where
     -- the list at the number of a root
     kept_is : (k : ℕ) → 1 ≤ k → k ≤ t.positive → kept_at (kept_by d word) k ≡ not (is_negative (moved d.base word (root_of d (pos k))))

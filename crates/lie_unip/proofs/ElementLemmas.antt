@@ -3,7 +3,7 @@ use Rattle.std.proofs.Common.{ℕ, Bool, true, false, cond, List, [], ◌∷◌,
 use Rattle.std.specs.Option.{option_map}
 use Rattle.std.specs.Prelude.{nat_lt}
 use Rattle.lie_ring.specs.Rings.{RingOn, IsElem, IsRing}
-use Rattle.lie_letters.specs.RingLetters.{OfElements, RingLetter, CommutatorTerm, power, term_letters, inverted}
+use Rattle.lie_letters.specs.RingLetters.{OfElements, RingLetter, CommutatorTerm, power, term_word, inverse_word}
 use Rattle.lie_unip.specs.Collection.{replacement, next_word, rewritten}
 
 -- a word, if there is one, has elements
@@ -28,27 +28,27 @@ module _ {A : Type 0} (R : RingOn A) where
     power-elem a (suc n) p = ring.laws.mul_elem (power R a n) a (power-elem a n p) p
 
     -- the letters of terms have elements
-    pub term_letters-elem : (cs : List CommutatorTerm) (t u : A) → IsElem R t → IsElem R u → OfElements R (term_letters R cs t u)
-    term_letters-elem [] t u p q = tt
-    term_letters-elem (c ∷ cs) t u p q = (
+    pub term_word-elem : (cs : List CommutatorTerm) (t u : A) → IsElem R t → IsElem R u → OfElements R (term_word R cs t u)
+    term_word-elem [] t u p q = tt
+    term_word-elem (c ∷ cs) t u p q = (
       ring.laws.mul_elem (R.of_int c.value) (R.mul (power R (R.neg t) c.i) (power R u c.j)) (ring.integers.int_elem c.value)
           (ring.laws.mul_elem (power R (R.neg t) c.i) (power R u c.j) (power-elem (R.neg t) c.i (ring.laws.neg_elem t p)) (power-elem u c.j q)),
-      term_letters-elem cs t u p q,
+      term_word-elem cs t u p q,
     )
 
     -- inverse letters have elements
-    pub inverted-elem : (w : List (RingLetter A)) → OfElements R w → OfElements R (inverted R w)
-    inverted-elem [] p = tt
-    inverted-elem (x ∷ w) p = OfElements-append (inverted R w) ((x.0, R.neg x.1) ∷ []) (inverted-elem w p.1) (ring.laws.neg_elem x.1 p.0, tt)
+    pub inverse_word-elem : (w : List (RingLetter A)) → OfElements R w → OfElements R (inverse_word R w)
+    inverse_word-elem [] p = tt
+    inverse_word-elem (x ∷ w) p = OfElements-append (inverse_word R w) ((x.0, R.neg x.1) ∷ []) (inverse_word-elem w p.1) (ring.laws.neg_elem x.1 p.0, tt)
 
     module _ (terms : ℕ → ℕ → List CommutatorTerm) (before : ℕ → ℕ → Bool) where
       -- what takes the place of two neighbours has elements
       pub replacement-elem : (x y : RingLetter A) → IsElem R x.1 → IsElem R y.1 → OfElements R (replacement R terms x y)
-      replacement-elem x y p q = elim (eqb x.0 y.0) as (λ b. OfElements R (cond b ((x.0, R.add x.1 y.1) ∷ []) (cond (nat_lt y.0 x.0) (y ∷ x ∷ term_letters R (terms y.0 x.0) y.1 x.1) (y ∷ x ∷ inverted R (term_letters R (terms x.0 y.0) x.1 y.1))))) [
+      replacement-elem x y p q = elim (eqb x.0 y.0) as (λ b. OfElements R (cond b ((x.0, R.add x.1 y.1) ∷ []) (cond (nat_lt y.0 x.0) (y ∷ x ∷ term_word R (terms y.0 x.0) y.1 x.1) (y ∷ x ∷ inverse_word R (term_word R (terms x.0 y.0) x.1 y.1))))) [
         | true ↦ (ring.laws.add_elem x.1 y.1 p q, tt)
-        | false ↦ elim (nat_lt y.0 x.0) as (λ b. OfElements R (cond b (y ∷ x ∷ term_letters R (terms y.0 x.0) y.1 x.1) (y ∷ x ∷ inverted R (term_letters R (terms x.0 y.0) x.1 y.1)))) [
-          | true ↦ (q, (p, term_letters-elem (terms y.0 x.0) y.1 x.1 q p))
-          | false ↦ (q, (p, inverted-elem (term_letters R (terms x.0 y.0) x.1 y.1) (term_letters-elem (terms x.0 y.0) x.1 y.1 p q)))
+        | false ↦ elim (nat_lt y.0 x.0) as (λ b. OfElements R (cond b (y ∷ x ∷ term_word R (terms y.0 x.0) y.1 x.1) (y ∷ x ∷ inverse_word R (term_word R (terms x.0 y.0) x.1 y.1)))) [
+          | true ↦ (q, (p, term_word-elem (terms y.0 x.0) y.1 x.1 q p))
+          | false ↦ (q, (p, inverse_word-elem (term_word R (terms x.0 y.0) x.1 y.1) (term_word-elem (terms x.0 y.0) x.1 y.1 p q)))
         ]
       ]
 

@@ -4,7 +4,7 @@ use Rattle.std.specs.Prelude.{nat_lt}
 use Rattle.std.specs.Option.{option_map}
 use Rattle.std.proofs.lemmas.Bool.Decides.{nat_tests}
 use Rattle.lie_ring.specs.Rings.{RingOn}
-use Rattle.lie_letters.specs.RingLetters.{RingLetter, CommutatorTerm, term_letters, inverted, Within}
+use Rattle.lie_letters.specs.RingLetters.{RingLetter, CommutatorTerm, term_word, inverse_word, Within}
 use Rattle.lie_unip.specs.Collection.{replacement, next_word, rewritten, Ends, at_end, by_step, ComeAfter, IsStrictOrder, AreCollectable}
 use Rattle.lie_unip.proofs.BoundLemmas.{rewritten-within, SomeWithin}
 use Rattle.lie_unip.proofs.SortedLemmas.{bad}
@@ -134,7 +134,7 @@ module _ {A : Type 0} where
         }
 
 module _ {A : Type 0} (R : RingOn A) (m : ℕ) (terms : ℕ → ℕ → List CommutatorTerm) (collectable : AreCollectable m terms) (before : ℕ → ℕ → Bool) (order : IsStrictOrder before) where
-  high_terms : (h s : ℕ) (cs : List CommutatorTerm) (t u : A) → h ≤ s → ComeAfter m s cs → High before h (term_letters R cs t u)
+  high_terms : (h s : ℕ) (cs : List CommutatorTerm) (t u : A) → h ≤ s → ComeAfter m s cs → High before h (term_word R cs t u)
   high_terms h s [] t u low c = tt
   high_terms h s (c ∷ cs) t u low g = (omega (arith, g.0), high_terms h s cs t u low g.4)
 
@@ -142,9 +142,9 @@ module _ {A : Type 0} (R : RingOn A) (m : ℕ) (terms : ℕ → ℕ → List Com
   high_append h [] w hv hw = hw
   high_append h (a ∷ v) w hv hw = (hv.0, high_append h v w hv.1 hw)
 
-  high_inverted : (h : ℕ) (w : List (RingLetter A)) → High before h w → High before h (inverted R w)
+  high_inverted : (h : ℕ) (w : List (RingLetter A)) → High before h w → High before h (inverse_word R w)
   high_inverted h [] high = tt
-  high_inverted h (a ∷ w) high = high_append h (inverted R w) ((a.0, R.neg a.1) ∷ []) (high_inverted h w high.1) (high.0, tt)
+  high_inverted h (a ∷ w) high = high_append h (inverse_word R w) ((a.0, R.neg a.1) ∷ []) (high_inverted h w high.1) (high.0, tt)
 
   -- at some root up to m, v is lower than w
   abbrev Lower : List (RingLetter A) → List (RingLetter A) → Type 0
@@ -160,19 +160,19 @@ module _ {A : Type 0} (R : RingOn A) (m : ℕ) (terms : ℕ → ℕ → List Com
           (max x.0 y.0, omega (arith, a, b), falls_swap before x y t w f (order.one_way y.0 x.0 f) high)
 
       go : (b : Bool) → eqb x.0 y.0 ≡ b → (c : Bool) → nat_lt y.0 x.0 ≡ c → cond b true (before y.0 x.0) ≡ true
-          → Lower (cond b ((x.0, R.add x.1 y.1) ∷ []) (cond c (y ∷ x ∷ term_letters R (terms y.0 x.0) y.1 x.1) (y ∷ x ∷ inverted R (term_letters R (terms x.0 y.0) x.1 y.1))) ++ w) (x ∷ y ∷ w)
+          → Lower (cond b ((x.0, R.add x.1 y.1) ∷ []) (cond c (y ∷ x ∷ term_word R (terms y.0 x.0) y.1 x.1) (y ∷ x ∷ inverse_word R (term_word R (terms x.0 y.0) x.1 y.1))) ++ w) (x ∷ y ∷ w)
       go true f c g h =
           let same : x.0 ≡ y.0 = grind (arith, nat_tests) in
           let a = within.1 in
           (x.0, omega (arith, a), falls_merge before x y (x.0, R.add x.1 y.1) w (sym same) refl)
       go false f true g h =
           let below : y.0 < x.0 = grind (arith, nat_tests) in
-          swapped h (term_letters R (terms y.0 x.0) y.1 x.1)
+          swapped h (term_word R (terms y.0 x.0) y.1 x.1)
           (high_terms (max x.0 y.0) x.0 (terms y.0 x.0) y.1 x.1 (omega (arith, below)) (collectable.later y.0 x.0 within.2.0 below within.1))
       go false f false g h =
           let below : x.0 < y.0 = grind (arith, nat_tests) in
-          swapped h (inverted R (term_letters R (terms x.0 y.0) x.1 y.1))
-          (high_inverted (max x.0 y.0) (term_letters R (terms x.0 y.0) x.1 y.1)
+          swapped h (inverse_word R (term_word R (terms x.0 y.0) x.1 y.1))
+          (high_inverted (max x.0 y.0) (term_word R (terms x.0 y.0) x.1 y.1)
           (high_terms (max x.0 y.0) y.0 (terms x.0 y.0) x.1 y.1 (omega (arith, below)) (collectable.later x.0 y.0 within.0 below within.2.1)))
 
   next_lowers : (x : RingLetter A) (w v : List (RingLetter A)) → Within m (x ∷ w) → next_word R terms before x w ≡ Some v → Lower v (x ∷ w)

@@ -4,7 +4,7 @@ use Rattle.std.proofs.lemmas.Bool.Decides.{nat_tests}
 use Rattle.std.specs.Prelude.{nat_lt}
 use Rattle.std.specs.Option.{option_map}
 use Rattle.lie_ring.specs.Rings.{RingOn, IsRing}
-use Rattle.lie_letters.specs.RingLetters.{RingLetter, CommutatorTerm, term_letters, inverted, Within, OfElements, full_word}
+use Rattle.lie_letters.specs.RingLetters.{RingLetter, CommutatorTerm, term_word, inverse_word, Within, OfElements, full_word}
 use Rattle.lie_unip.specs.Collection.{replacement, next_word, rewritten, Ends, at_end, by_step, IsCollected, AreCollectable}
 use Rattle.lie_unip.specs.Placing.{Leads}
 use Rattle.lie_unip.proofs.BoundLemmas.{rewritten-within, SomeWithin, Within-append}
@@ -53,11 +53,11 @@ module _ {A : Type 0} (R : RingOn A) (m : ℕ) (terms others : ℕ → ℕ → L
   replacement-alike x y xl xh yl yh = go (eqb x.0 y.0) refl (nat_lt y.0 x.0) refl
     where
       go : (b : Bool) → eqb x.0 y.0 ≡ b → (c : Bool) → nat_lt y.0 x.0 ≡ c
-          → cond b ((x.0, R.add x.1 y.1) ∷ []) (cond c (y ∷ x ∷ term_letters R (terms y.0 x.0) y.1 x.1) (y ∷ x ∷ inverted R (term_letters R (terms x.0 y.0) x.1 y.1)))
-          ≡ cond b ((x.0, R.add x.1 y.1) ∷ []) (cond c (y ∷ x ∷ term_letters R (others y.0 x.0) y.1 x.1) (y ∷ x ∷ inverted R (term_letters R (others x.0 y.0) x.1 y.1)))
+          → cond b ((x.0, R.add x.1 y.1) ∷ []) (cond c (y ∷ x ∷ term_word R (terms y.0 x.0) y.1 x.1) (y ∷ x ∷ inverse_word R (term_word R (terms x.0 y.0) x.1 y.1)))
+          ≡ cond b ((x.0, R.add x.1 y.1) ∷ []) (cond c (y ∷ x ∷ term_word R (others y.0 x.0) y.1 x.1) (y ∷ x ∷ inverse_word R (term_word R (others x.0 y.0) x.1 y.1)))
       go true e c f = refl
-      go false e true f = let below : y.0 < x.0 = grind (arith, nat_tests) in ap (λ cs. y ∷ x ∷ term_letters R cs y.1 x.1) (alike y.0 x.0 yl below xh)
-      go false e false f = let below : x.0 < y.0 = grind (arith, nat_tests) in ap (λ cs. y ∷ x ∷ inverted R (term_letters R cs x.1 y.1)) (alike x.0 y.0 xl below yh)
+      go false e true f = let below : y.0 < x.0 = grind (arith, nat_tests) in ap (λ cs. y ∷ x ∷ term_word R cs y.1 x.1) (alike y.0 x.0 yl below xh)
+      go false e false f = let below : x.0 < y.0 = grind (arith, nat_tests) in ap (λ cs. y ∷ x ∷ inverse_word R (term_word R cs x.1 y.1)) (alike x.0 y.0 xl below yh)
 
   next-alike : (x : RingLetter A) (w : List (RingLetter A)) → Within m (x ∷ w) → next_word R terms before x w ≡ next_word R others before x w
   next-alike x [] h = refl

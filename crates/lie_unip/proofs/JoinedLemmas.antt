@@ -8,12 +8,12 @@ use Rattle.std.specs.Map.{lookup}
 use Rattle.std.specs.List.{range_with_len}
 use Rattle.lie_letters.specs.RingRelations.{RingRelation, RingJoined, S0-root, S1, S2}
 use Rattle.lie_ring.specs.Rings.{RingOn, IsElem, IsRing}
-use Rattle.lie_letters.specs.RingLetters.{RingLetter, CommutatorTerm, term_letters, inverted, OfElements, Within, full_from, full_word}
+use Rattle.lie_letters.specs.RingLetters.{RingLetter, CommutatorTerm, term_word, inverse_word, OfElements, Within, full_from, full_word}
 use Rattle.lie_unip.specs.Splitting.{kept_first, chosen, IsSplit}
 use Rattle.lie_unip.proofs.SplitLemmas.{kept_first_order}
 use Rattle.lie_unip.proofs.ZeroLemmas.{Dropped-append}
 use Rattle.lie_unip.specs.Collection.{replacement, next_word, rewritten, Ends, at_end, by_step, elements, IsCollected, AreCollectable}
-use Rattle.lie_unip.proofs.ElementLemmas.{rewritten-elem, term_letters-elem, SomeOf}
+use Rattle.lie_unip.proofs.ElementLemmas.{rewritten-elem, term_word-elem, SomeOf}
 use Rattle.lie_unip.proofs.BoundLemmas.{Within-append, Within-terms, rewritten-within, SomeWithin}
 use Rattle.lie_unip.proofs.SortedLemmas.{bad, BeforeAll, Sorted, ends_sorted}
 use Rattle.lie_unip.proofs.FullWordLemmas.{nat_lt_order}
@@ -31,12 +31,12 @@ module _ {A : Type 0} (R : RingOn A) (ring : IsRing R) (m : ℕ) (terms : ℕ �
   at_front : {l r : List (RingLetter A)} → RingRelation R m terms l r → (w : List (RingLetter A)) → RingJoined R m terms (l ++ w) (r ++ w)
   at_front e w = one_step (forward [] w e)
 
-  inverse_cancel : (u w : List (RingLetter A)) → OfElements R u → Within m u → RingJoined R m terms (u ++ (inverted R u ++ w)) w
+  inverse_cancel : (u w : List (RingLetter A)) → OfElements R u → Within m u → RingJoined R m terms (u ++ (inverse_word R u ++ w)) w
   inverse_cancel [] w p q = same
   inverse_cancel (x ∷ u) w p q =
       let minus : RingLetter A = (x.0, R.neg x.1) in
       let inner = behind (x ∷ []) (inverse_cancel u (minus ∷ w) p.1 q.2) in
-      let whole = subst (λ v. RingJoined R m terms (x ∷ (u ++ v)) (x ∷ minus ∷ w)) (sym (append_assoc (inverted R u) (minus ∷ []) w)) inner in
+      let whole = subst (λ v. RingJoined R m terms (x ∷ (u ++ v)) (x ∷ minus ∷ w)) (sym (append_assoc (inverse_word R u) (minus ∷ []) w)) inner in
       let sum = at_front (S1 x.0 x.1 (R.neg x.1) q.0 q.1 p.0 (ring.laws.neg_elem x.1 p.0)) w in
       let sum' = subst (λ a. RingJoined R m terms (x ∷ minus ∷ w) ((x.0, a) ∷ w)) (ring.laws.add_neg x.1 p.0) sum in
       trans whole (trans sum' (at_front (S0-root x.0 q.0 q.1) w))
@@ -53,7 +53,7 @@ module _ {A : Type 0} (R : RingOn A) (ring : IsRing R) (m : ℕ) (terms : ℕ �
     replaced x y w p q h = go (eqb x.0 y.0) refl (nat_lt y.0 x.0) refl
       where
         go : (b : Bool) → eqb x.0 y.0 ≡ b → (c : Bool) → nat_lt y.0 x.0 ≡ c
-            → RingJoined R m terms (x ∷ y ∷ w) (cond b ((x.0, R.add x.1 y.1) ∷ []) (cond c (y ∷ x ∷ term_letters R (terms y.0 x.0) y.1 x.1) (y ∷ x ∷ inverted R (term_letters R (terms x.0 y.0) x.1 y.1))) ++ w)
+            → RingJoined R m terms (x ∷ y ∷ w) (cond b ((x.0, R.add x.1 y.1) ∷ []) (cond c (y ∷ x ∷ term_word R (terms y.0 x.0) y.1 x.1) (y ∷ x ∷ inverse_word R (term_word R (terms x.0 y.0) x.1 y.1))) ++ w)
         go true e c f =
             let equal : x.0 ≡ y.0 = grind (arith, nat_tests) in
             subst (λ (r : ℕ). RingJoined R m terms (x ∷ (r, y.1) ∷ w) ((x.0, R.add x.1 y.1) ∷ w)) equal (at_front (S1 x.0 x.1 y.1 h.0 h.1 p q) w)
@@ -62,10 +62,10 @@ module _ {A : Type 0} (R : RingOn A) (ring : IsRing R) (m : ℕ) (terms : ℕ �
             at_front (S2 y.0 x.0 y.1 x.1 h.2.0 below h.1 q p) w
         go false e false f =
             let below : x.0 < y.0 = grind (arith, nat_tests) in
-            let t = term_letters R (terms x.0 y.0) x.1 y.1 in
+            let t = term_word R (terms x.0 y.0) x.1 y.1 in
             let lt = Within-terms R m y.0 (terms x.0 y.0) x.1 y.1 (collectable.later x.0 y.0 h.0 below h.2.1) in
-            let insert = flip (behind (x ∷ y ∷ []) (inverse_cancel t w (term_letters-elem R ring (terms x.0 y.0) x.1 y.1 p q) lt)) in
-            trans insert (flip (at_front (S2 x.0 y.0 x.1 y.1 h.0 below h.2.1 p q) (inverted R t ++ w)))
+            let insert = flip (behind (x ∷ y ∷ []) (inverse_cancel t w (term_word-elem R ring (terms x.0 y.0) x.1 y.1 p q) lt)) in
+            trans insert (flip (at_front (S2 x.0 y.0 x.1 y.1 h.0 below h.2.1 p q) (inverse_word R t ++ w)))
 
     module _ (before : ℕ → ℕ → Bool) where
       next_joined : (x : RingLetter A) (w v : List (RingLetter A)) → next_word R terms before x w ≡ Some v → OfElements R (x ∷ w) → Within m (x ∷ w) → RingJoined R m terms (x ∷ w) v

@@ -17,3 +17,4 @@ pub mod WordLemmas
 pub mod PartLemmas
 mod WorkedExamples
 pub mod FrontLemmas
+pub mod PositiveLetterLemmas

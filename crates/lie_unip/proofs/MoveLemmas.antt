@@ -10,10 +10,10 @@ use Rattle.lie_unip.proofs.FullWordLemmas.{AreElements}
 use Rattle.lie_unip.specs.Collection.{IsCollected, elements, at_end}
 use Rattle.lie_unip.specs.Dropping.{dropped, nothing}
 use Rattle.lie_ring.specs.Rings.{RingOn, IsRing}
-use Rattle.lie_letters.specs.RingLetters.{RingLetter, CommutatorTerm, term_letters, inverted, IsRingWord}
+use Rattle.lie_letters.specs.RingLetters.{RingLetter, CommutatorTerm, term_word, inverse_word, IsRingWord}
 use Rattle.lie_unip.specs.Collection.{replacement, IsStrictOrder, AreCollectable}
-use Rattle.lie_unip.proofs.ElementLemmas.{term_letters-elem, inverted-elem}
-use Rattle.lie_unip.proofs.BoundLemmas.{Within-terms, Within-inverted}
+use Rattle.lie_unip.proofs.ElementLemmas.{term_word-elem, inverse_word-elem}
+use Rattle.lie_unip.proofs.BoundLemmas.{Within-terms, Within-inverse_word}
 use Rattle.lie_unip.proofs.SortedLemmas.{bad, BeforeAll, Sorted, first_pair, before_other}
 use Rattle.lie_unip.specs.Dropping.{Dropped, kept}
 use Rattle.lie_unip.proofs.ZeroLemmas.{Dropped-refl, Dropped-append}
@@ -47,8 +47,8 @@ module _ {A : Type 0} (R : RingOn A) (ring : IsRing R) (m : ℕ) (terms : ℕ �
       step_leads R ring m terms collectable before order (P ++ y ∷ (r, a) ∷ W) (P ++ (r, a) ∷ y ∷ (crossing R terms r a y ++ W))
       (first_pair before order R terms P y (r, a) W s is_bad ∙ ap (λ z. Some (P ++ (z ++ W))) word)
     where
-      two : (b : Bool) → cond b ((r, a) ∷ y ∷ term_letters R (terms r y.0) a y.1) ((r, a) ∷ y ∷ inverted R (term_letters R (terms y.0 r) y.1 a))
-          ≡ (r, a) ∷ y ∷ cond b (term_letters R (terms r y.0) a y.1) (inverted R (term_letters R (terms y.0 r) y.1 a))
+      two : (b : Bool) → cond b ((r, a) ∷ y ∷ term_word R (terms r y.0) a y.1) ((r, a) ∷ y ∷ inverse_word R (term_word R (terms y.0 r) y.1 a))
+          ≡ (r, a) ∷ y ∷ cond b (term_word R (terms r y.0) a y.1) (inverse_word R (term_word R (terms y.0 r) y.1 a))
       two true = refl
       two false = refl
 
@@ -65,16 +65,16 @@ module _ {A : Type 0} (R : RingOn A) (ring : IsRing R) (m : ℕ) (terms : ℕ �
   pub crossing_lawful : (r : ℕ) (a : A) (y : RingLetter A) → before r y.0 ≡ true → IsRingWord R m ((r, a) ∷ []) → IsRingWord R m (y ∷ []) → IsRingWord R m (crossing R terms r a y)
   crossing_lawful r a y h la ly = go (nat_lt r y.0) refl
     where
-      go : (b : Bool) → nat_lt r y.0 ≡ b → IsRingWord R m (cond b (term_letters R (terms r y.0) a y.1) (inverted R (term_letters R (terms y.0 r) y.1 a)))
+      go : (b : Bool) → nat_lt r y.0 ≡ b → IsRingWord R m (cond b (term_word R (terms r y.0) a y.1) (inverse_word R (term_word R (terms y.0 r) y.1 a)))
       go true e =
           let below : r < y.0 = grind (arith, nat_tests) in
-          (term_letters-elem R ring (terms r y.0) a y.1 la.0.0 ly.0.0, Within-terms R m y.0 (terms r y.0) a y.1 (collectable.later r y.0 la.1.0 below ly.1.1))
+          (term_word-elem R ring (terms r y.0) a y.1 la.0.0 ly.0.0, Within-terms R m y.0 (terms r y.0) a y.1 (collectable.later r y.0 la.1.0 below ly.1.1))
       go false e =
           let o = before_other before order r y.0 h in
           let below : y.0 < r = grind (arith, nat_tests) in
-          let t = term_letters R (terms y.0 r) y.1 a in (
-            inverted-elem R ring t (term_letters-elem R ring (terms y.0 r) y.1 a ly.0.0 la.0.0),
-            Within-inverted R m t (Within-terms R m r (terms y.0 r) y.1 a (collectable.later y.0 r ly.1.0 below la.1.1)),
+          let t = term_word R (terms y.0 r) y.1 a in (
+            inverse_word-elem R ring t (term_word-elem R ring (terms y.0 r) y.1 a ly.0.0 la.0.0),
+            Within-inverse_word R m t (Within-terms R m r (terms y.0 r) y.1 a (collectable.later y.0 r ly.1.0 below la.1.1)),
           )
 
   -- letters are passed where nothing but 0 arises
@@ -105,17 +105,17 @@ module _ {A : Type 0} (R : RingOn A) (ring : IsRing R) (m : ℕ) (terms : ℕ �
   idle_crossing r a y h la ly i = go (nat_lt r y.0) refl i
     where
       go : (b : Bool) → nat_lt r y.0 ≡ b → (y.1 ≡ R.zero) ⊎ (cond b (terms r y.0) (terms y.0 r) ≡ [])
-          → Dropped R (cond b (term_letters R (terms r y.0) a y.1) (inverted R (term_letters R (terms y.0 r) y.1 a))) []
+          → Dropped R (cond b (term_word R (terms r y.0) a y.1) (inverse_word R (term_word R (terms y.0 r) y.1 a))) []
       go true e (inl z) =
           let below : r < y.0 = grind (arith, nat_tests) in
-          subst (λ z. Dropped R (term_letters R (terms r y.0) a z) []) (sym z) (zero_second R ring m y.0 (terms r y.0) a la.0.0 (collectable.later r y.0 la.1.0 below ly.1.1))
-      go true e (inr z) = subst (λ cs. Dropped R (term_letters R cs a y.1) []) (sym z) nothing
+          subst (λ z. Dropped R (term_word R (terms r y.0) a z) []) (sym z) (zero_second R ring m y.0 (terms r y.0) a la.0.0 (collectable.later r y.0 la.1.0 below ly.1.1))
+      go true e (inr z) = subst (λ cs. Dropped R (term_word R cs a y.1) []) (sym z) nothing
       go false e (inl z) =
           let o = before_other before order r y.0 h in
           let below : y.0 < r = grind (arith, nat_tests) in
-          subst (λ z. Dropped R (inverted R (term_letters R (terms y.0 r) z a)) []) (sym z)
+          subst (λ z. Dropped R (inverse_word R (term_word R (terms y.0 r) z a)) []) (sym z)
           (zero_inverted R ring (zero_first R ring m r (terms y.0 r) a la.0.0 (collectable.later y.0 r ly.1.0 below la.1.1)) refl)
-      go false e (inr z) = subst (λ cs. Dropped R (inverted R (term_letters R cs y.1 a)) []) (sym z) nothing
+      go false e (inr z) = subst (λ cs. Dropped R (inverse_word R (term_word R cs y.1 a)) []) (sym z) nothing
 
   -- such letters, at the roots of a list
   pub idle_still : (ks : List ℕ) (c : List A) (r : ℕ) (a : A) → BeforeRoots before r ks → AreRoots m ks → AreElements R c → IsRingWord R m ((r, a) ∷ [])

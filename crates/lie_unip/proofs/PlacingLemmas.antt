@@ -7,7 +7,7 @@ use Rattle.std.proofs.Math.Nat.{suc-mul, mul-le-mul_right, pow-le-pow_right, one
 use Rattle.std.specs.Prelude.{nat_lt}
 use Rattle.std.specs.List.{All}
 use Rattle.lie_ring.specs.Rings.{RingOn, IsElem, Fits, IsRing}
-use Rattle.lie_letters.specs.RingLetters.{RingLetter, CommutatorTerm, term_letters, inverted, IsRingWord}
+use Rattle.lie_letters.specs.RingLetters.{RingLetter, CommutatorTerm, term_word, inverse_word, IsRingWord}
 use Rattle.lie_unip.specs.Collection.{ComeAfter, AreCollectable, AreEntries, IsCollected}
 use Rattle.lie_unip.specs.Splitting.{kept_first}
 use Rattle.lie_unip.specs.Placing.{Leads, crossing, BeforeRoots, letters_at, AreSorted, AreRoots, NoneKept, StayApart, terms_between, rank_of, weight, IdleBetween, ZeroFrom, IsLifted, AreLifted, IsPlaced}
@@ -38,7 +38,7 @@ module _ {A : Type 0} (R : RingOn A) where
       omega (arith, known, less, more)
 
   rank_terms : (m : ℕ) (kept : ℕ → Bool) (r s : ℕ) (cs : List CommutatorTerm) (t u : A) → r ≤ m → r ≤ s → ComeAfter m s cs → (kept r ≡ false → NoneKept kept cs)
-      → HaveRank m kept (rank_of m kept r - 1) (term_letters R cs t u)
+      → HaveRank m kept (rank_of m kept r - 1) (term_word R cs t u)
   rank_terms m kept r s [] t u low at h apart = tt
   rank_terms m kept r s (c ∷ cs) t u low at h apart =
       let after = h.0 in (
@@ -50,17 +50,17 @@ module _ {A : Type 0} (R : RingOn A) where
   rank_append m kept e [] w p q = q
   rank_append m kept e (x ∷ v) w p q = (p.0, rank_append m kept e v w p.1 q)
 
-  rank_inverted : (m : ℕ) (kept : ℕ → Bool) (e : ℕ) (w : List (RingLetter A)) → HaveRank m kept e w → HaveRank m kept e (inverted R w)
+  rank_inverted : (m : ℕ) (kept : ℕ → Bool) (e : ℕ) (w : List (RingLetter A)) → HaveRank m kept e w → HaveRank m kept e (inverse_word R w)
   rank_inverted m kept e [] p = tt
-  rank_inverted m kept e (x ∷ w) p = rank_append m kept e (inverted R w) ((x.0, R.neg x.1) ∷ []) (rank_inverted m kept e w p.1) (p.0, tt)
+  rank_inverted m kept e (x ∷ w) p = rank_append m kept e (inverse_word R w) ((x.0, R.neg x.1) ∷ []) (rank_inverted m kept e w p.1) (p.0, tt)
 
-  length-term_letters : (cs : List CommutatorTerm) (t u : A) → length (term_letters R cs t u) ≡ length cs
-  length-term_letters [] t u = refl
-  length-term_letters (c ∷ cs) t u = ap suc (length-term_letters cs t u)
+  length-term_word : (cs : List CommutatorTerm) (t u : A) → length (term_word R cs t u) ≡ length cs
+  length-term_word [] t u = refl
+  length-term_word (c ∷ cs) t u = ap suc (length-term_word cs t u)
 
-  length-inverted : (w : List (RingLetter A)) → length (inverted R w) ≡ length w
-  length-inverted [] = refl
-  length-inverted (x ∷ w) = length-append (inverted R w) ((x.0, R.neg x.1) ∷ []) ∙ omega (arith, length-inverted w)
+  length-inverse_word : (w : List (RingLetter A)) → length (inverse_word R w) ≡ length w
+  length-inverse_word [] = refl
+  length-inverse_word (x ∷ w) = length-append (inverse_word R w) ((x.0, R.neg x.1) ∷ []) ∙ omega (arith, length-inverse_word w)
 
   module _ (m : ℕ) (terms : ℕ → ℕ → List CommutatorTerm) (collectable : AreCollectable m terms) (kept : ℕ → Bool) (apart : StayApart m terms kept) where
     -- where a letter passes another, few letters arise, and of lower rank
@@ -72,12 +72,12 @@ module _ {A : Type 0} (R : RingOn A) where
         kinds = kept_after kept r k h
 
         go : (b : Bool) → nat_lt r k ≡ b
-            → HaveRank m kept (rank_of m kept r - 1) (cond b (term_letters R (terms r k) a x) (inverted R (term_letters R (terms k r) x a)))
-            × (length (cond b (term_letters R (terms r k) a x) (inverted R (term_letters R (terms k r) x a))) ≤ 7)
+            → HaveRank m kept (rank_of m kept r - 1) (cond b (term_word R (terms r k) a x) (inverse_word R (term_word R (terms k r) x a)))
+            × (length (cond b (term_word R (terms r k) a x) (inverse_word R (term_word R (terms k r) x a))) ≤ 7)
         go true e =
             let below : r < k = grind (arith, nat_tests) in
             let few = collectable.few r k rl below kh in
-            let long = length-term_letters (terms r k) a x in (
+            let long = length-term_word (terms r k) a x in (
               rank_terms m kept r k (terms r k) a x rh (omega (arith, below)) (collectable.later r k rl below kh) (λ f. apart r k rl below kh f (kinds.1 f)),
               omega (arith, few, long),
             )
@@ -85,8 +85,8 @@ module _ {A : Type 0} (R : RingOn A) where
             let o = before_other (kept_first kept) (kept_first_order kept) r k h in
             let below : k < r = grind (arith, nat_tests) in
             let few = collectable.few k r kl below rh in
-            let t = term_letters R (terms k r) x a in
-            let long = length-inverted t ∙ length-term_letters (terms k r) x a in (
+            let t = term_word R (terms k r) x a in
+            let long = length-inverse_word t ∙ length-term_word (terms k r) x a in (
               rank_inverted m kept (rank_of m kept r - 1) t
                   (rank_terms m kept r r (terms k r) x a rh (omega arith) (collectable.later k r kl below rh) (λ f. apart k r kl below rh (kinds.1 f) f)),
               omega (arith, few, long),
@@ -275,6 +275,35 @@ module _ {A : Type 0} (R : RingOn A) (ring : IsRing R) where
               (skipped R ring m terms collectable before (kept_first_order kept) (letters_at ks c) r (reverse w) low high (letters_word R m ks c roots (elements_of c entries.fit)) lw);
           lighter = omega (arith, one);
         }
+
+-- a letter has passed all places from one on where these have 0
+pub lifted_none : {A : Type 0} (R : RingOn A) (m : ℕ) (terms : ℕ → ℕ → List CommutatorTerm) (kept : ℕ → Bool) (ks : List ℕ) (r i : ℕ) (a : A) (c : List A) (w : List (RingLetter A))
+    → AreEntries R (length ks) c → ZeroFrom R i c → IsRingWord R m (reverse w) → AreLifted R terms m kept ks r a i c c w w
+lifted_none R m terms kept ks r i a c w entries zeros lw = record {
+  entries = entries;
+  before = λ j l. refl;
+  after = zeros;
+  lawful = lw;
+  leads = λ u d. d;
+  lighter = omega arith;
+}
+
+-- a place in front of those that have 0 is changed, and these still have 0
+pub zeros_behind : {A : Type 0} (R : RingOn A) (c : List A) (p i : ℕ) (x : A) → p < i → ZeroFrom R i c → ZeroFrom R i (set c p x)
+zeros_behind R c p i x h zeros j l =
+    let other : j ≢ p = λ s. absurd (omega (arith, l, h, s)) in
+    get_or-set_other c p j x R.zero other ∙ zeros j l
+
+-- one more place has 0
+pub zeros_more : {A : Type 0} (R : RingOn A) (c : List A) (k i : ℕ) → k ≡ i + 1 → get_or c i R.zero ≡ R.zero → ZeroFrom R k c → ZeroFrom R i c
+zeros_more R c k i h here zeros j l = go (side j l)
+  where
+    side : (j : ℕ) → i ≤ j → (j ≡ i) ⊎ (i < j)
+    side j l = grind (arith, l)
+
+    go : (j ≡ i) ⊎ (i < j) → get_or c j R.zero ≡ R.zero
+    go (inl e) = ap (λ n. get_or c n R.zero) e ∙ here
+    go (inr s) = zeros j (omega (arith, s, h))
 
 -- one more place without a trace
 pub idle_more : {A : Type 0} (R : RingOn A) (terms : ℕ → ℕ → List CommutatorTerm) (r : ℕ) (ks : List ℕ) (i k : ℕ) (c : List A) → IdleBetween R terms r ks i k c

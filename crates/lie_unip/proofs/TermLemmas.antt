@@ -4,7 +4,7 @@ use Rattle.std.proofs.lemmas.List.{drop_more, take_more, get_or-map, length-map}
 use Rattle.lie_const.specs.declared.term.Term.{Term}
 use Rattle.lie_ring.specs.Rings.{RingOn, IsElem, IsRing}
 use Rattle.lie_ring.specs.RingLemmas.{one_mul, neg_one_mul, int_neg}
-use Rattle.lie_letters.specs.RingLetters.{RingLetter, CommutatorTerm, power, term_letters, inverted}
+use Rattle.lie_letters.specs.RingLetters.{RingLetter, CommutatorTerm, power, term_word, inverse_word}
 use Rattle.lie_letters.specs.PositiveTerms.{positive_term}
 use Rattle.lie_unip.proofs.PlacingLemmas.{reverse_push}
 
@@ -14,7 +14,7 @@ module _ {A : Type 0} (R : RingOn A) where
   letter_of t u c = (c.root, R.mul (R.of_int c.value) (R.mul (power R (R.neg t) c.i) (power R u c.j)))
 
   abbrev letters_of : List Term → A → A → List (RingLetter A)
-  letters_of ts t u = term_letters R (map positive_term ts) t u
+  letters_of ts t u = term_word R (map positive_term ts) t u
 
   letters_long : (ts : List Term) (t u : A) (n : ℕ) → n < length ts → n < length (letters_of ts t u)
   letters_long ts t u n h = subst (λ l. n < l) (sym (length-map (map positive_term ts) (letter_of t u) ∙ length-map ts positive_term)) h
@@ -33,7 +33,7 @@ module _ {A : Type 0} (R : RingOn A) where
   -- the letters of the terms, one more from the back
   pub put_more : (ts : List Term) (t minus u : A) (k n : ℕ) (d : Term) (r : ℕ) (y : A) (w v z : List (RingLetter A)) → k ≡ n + 1 → n < length ts → d ≡ get_or ts n d → minus ≡ R.neg t
       → r ≡ (positive_term d).root → y ≡ R.mul (R.of_int d.value) (R.mul (power R minus d.i) (power R u d.j))
-      → reverse w ≡ drop k (term_letters R (map positive_term ts) t u) ++ v → z ≡ w ++ (r, y) ∷ [] → reverse z ≡ drop n (term_letters R (map positive_term ts) t u) ++ v
+      → reverse w ≡ drop k (term_word R (map positive_term ts) t u) ++ v → z ≡ w ++ (r, y) ∷ [] → reverse z ≡ drop n (term_word R (map positive_term ts) t u) ++ v
   put_more ts t minus u k n d r y w v z e h at neg root value g i =
       let letters = letters_of ts t u in
       let here : drop n letters ≡ (r, y) ∷ drop (n + 1) letters =
@@ -41,21 +41,21 @@ module _ {A : Type 0} (R : RingOn A) where
       ap reverse i ∙ reverse_push w (r, y) ∙ ap (λ l. (r, y) ∷ l) (g ∙ ap (λ j. drop j letters ++ v) e) ∙ ap (λ l. l ++ v) (sym here)
 
   -- the inverse letters of a word with one more letter at its end
-  pub inverted_push : (w : List (RingLetter A)) (x : RingLetter A) → inverted R (w ++ x ∷ []) ≡ (x.0, R.neg x.1) ∷ inverted R w
+  pub inverted_push : (w : List (RingLetter A)) (x : RingLetter A) → inverse_word R (w ++ x ∷ []) ≡ (x.0, R.neg x.1) ∷ inverse_word R w
   inverted_push [] x = refl
   inverted_push (y ∷ w) x = ap (λ l. l ++ (y.0, R.neg y.1) ∷ []) (inverted_push w x)
 
   -- the inverse letters, one more from the front
   pub put_inverse_more : (ts : List Term) (t minus u : A) (n : ℕ) (d : Term) (r : ℕ) (y b : A) (w v z : List (RingLetter A)) → n < length ts → d ≡ get_or ts n d → minus ≡ R.neg t
       → r ≡ (positive_term d).root → y ≡ R.mul (R.of_int d.value) (R.mul (power R minus d.i) (power R u d.j)) → b ≡ R.neg y
-      → reverse w ≡ inverted R (take n (term_letters R (map positive_term ts) t u)) ++ v → z ≡ w ++ (r, b) ∷ []
-      → reverse z ≡ inverted R (take (n + 1) (term_letters R (map positive_term ts) t u)) ++ v
+      → reverse w ≡ inverse_word R (take n (term_word R (map positive_term ts) t u)) ++ v → z ≡ w ++ (r, b) ∷ []
+      → reverse z ≡ inverse_word R (take (n + 1) (term_word R (map positive_term ts) t u)) ++ v
   put_inverse_more ts t minus u n d r y b w v z h at neg root value inverse g i =
       let letters = letters_of ts t u in
       let more : take (n + 1) letters ≡ take n letters ++ (r, y) ∷ [] =
       take_more letters n (r, y) (letters_long ts t u n h) ∙ ap (λ x. take n letters ++ x ∷ []) (letter_here ts t minus u n d (r, y) r y h at neg root value) in
-      let end : inverted R (take (n + 1) letters) ≡ (r, b) ∷ inverted R (take n letters) =
-      ap (inverted R) more ∙ inverted_push (take n letters) (r, y) ∙ ap (λ (a : A). (r, a) ∷ inverted R (take n letters)) (sym inverse) in
+      let end : inverse_word R (take (n + 1) letters) ≡ (r, b) ∷ inverse_word R (take n letters) =
+      ap (inverse_word R) more ∙ inverted_push (take n letters) (r, y) ∙ ap (λ (a : A). (r, a) ∷ inverse_word R (take n letters)) (sym inverse) in
       ap reverse i ∙ reverse_push w (r, b) ∙ ap (λ l. (r, b) ∷ l) g ∙ ap (λ l. l ++ v) (sym end)
 
   module _ (ring : IsRing R) where

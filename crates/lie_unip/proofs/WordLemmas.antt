@@ -6,14 +6,14 @@ use Rattle.std.specs.Prelude.{nat_lt}
 use Rattle.std.proofs.lemmas.List.Elements.{All-replicate}
 use Rattle.std.specs.List.{range_with_len}
 use Rattle.lie_ring.specs.Rings.{RingOn, Fits, IsRing}
-use Rattle.lie_letters.specs.RingLetters.{RingLetter, CommutatorTerm, inverted, full_word, IsRingWord}
+use Rattle.lie_letters.specs.RingLetters.{RingLetter, CommutatorTerm, inverse_word, full_word, IsRingWord}
 use Rattle.lie_unip.specs.Collection.{IsCollected, AreEntries, AreCollectable, elements}
 use Rattle.lie_const.specs.ConstantTables.{ConstantTable}
 use Rattle.lie_letters.specs.PositiveTerms.{positive_terms}
 use Rattle.lie_unip.specs.Splitting.{kept_first, kept_at}
 use Rattle.lie_unip.specs.Placing.{letters_at}
-use Rattle.lie_unip.proofs.ElementLemmas.{inverted-elem}
-use Rattle.lie_unip.proofs.BoundLemmas.{Within-inverted}
+use Rattle.lie_unip.proofs.ElementLemmas.{inverse_word-elem}
+use Rattle.lie_unip.proofs.BoundLemmas.{Within-inverse_word}
 use Rattle.lie_unip.proofs.FullWordLemmas.{AreElements, AreZero, full_append, full_lawful, full_zero, elements_full, nat_lt_order}
 use Rattle.lie_unip.proofs.OrderedLemmas.{letters_full}
 use Rattle.lie_unip.proofs.MoveLemmas.{after_zeros}
@@ -23,7 +23,7 @@ use Rattle.lie_unip.proofs.PlacingLemmas.{reverse_push, elements_of}
 module _ {A : Type 0} (R : RingOn A) where
   -- the inverse letters, one more
   pub inverse_more : (u : List A) (k : ℕ) (a : A) (w z : List (RingLetter A)) → k < length u → a ≡ get_or u k R.zero
-      → reverse w ≡ inverted R (full_word (take k u)) → z ≡ w ++ (k + 1, R.neg a) ∷ [] → reverse z ≡ inverted R (full_word (take (k + 1) u))
+      → reverse w ≡ inverse_word R (full_word (take k u)) → z ≡ w ++ (k + 1, R.neg a) ∷ [] → reverse z ≡ inverse_word R (full_word (take (k + 1) u))
   inverse_more u k a w z h e f g =
       let p = take k u in
       let count : 1 + length p ≡ k + 1 = let l = length-take-le k u (omega (arith, h)) in omega (arith, l) in
@@ -31,7 +31,7 @@ module _ {A : Type 0} (R : RingOn A) where
       ap full_word (take_more u k R.zero h ∙ ap (λ b. p ++ b ∷ []) (sym e)) ∙ full_append 1 p (a ∷ [])
       ∙ ap (λ (n : ℕ). full_word p ++ (n, a) ∷ []) count in
       ap reverse g ∙ reverse_push w (k + 1, R.neg a) ∙ ap (λ l. (k + 1, R.neg a) ∷ l) f
-      ∙ sym (inverted_push R (full_word p) (k + 1, a)) ∙ ap (inverted R) (sym more)
+      ∙ sym (inverted_push R (full_word p) (k + 1, a)) ∙ ap (inverse_word R) (sym more)
 
   -- zeros are 0
   pub zeros_are : (n : ℕ) → AreZero R (replicate n R.zero)
@@ -47,8 +47,8 @@ module _ {A : Type 0} (R : RingOn A) where
   word_lawful ring m c e = full_lawful R m 1 c (omega arith) (let l = e.count in omega (arith, l)) (elements_of R ring c e.fit)
 
   -- the inverse letters of a full word are letters over the ring
-  pub inverse_lawful : IsRing R → (m : ℕ) (c : List A) → AreEntries R m c → IsRingWord R m (inverted R (full_word c))
-  inverse_lawful ring m c e = let l = word_lawful ring m c e in (inverted-elem R ring (full_word c) l.0, Within-inverted R m (full_word c) l.1)
+  pub inverse_lawful : IsRing R → (m : ℕ) (c : List A) → AreEntries R m c → IsRingWord R m (inverse_word R (full_word c))
+  inverse_lawful ring m c e = let l = word_lawful ring m c e in (inverse_word-elem R ring (full_word c) l.0, Within-inverse_word R m (full_word c) l.1)
 
   -- zeros are elements
   pub zero_elements : IsRing R → (n : ℕ) → AreElements R (replicate n R.zero)

@@ -5,7 +5,7 @@ use Rattle.lie_ring.specs.Rings.{RingOn}
 use Rattle.lie_field.specs.Polynomials.{residues}
 use Rattle.lie_field.specs.Quotient.{degree, order, leading, shift, element, add, mul, neg, of_int}
 use Rattle.lie_field.specs.FieldRing.{field_ring, field_is_ring}
-use Rattle.lie_letters.specs.RingLetters.{RingLetter, full_word, inverted, IsRingWord}
+use Rattle.lie_letters.specs.RingLetters.{RingLetter, full_word, inverse_word, IsRingWord}
 use Rattle.lie_letters.specs.RingRelations.{RingJoined}
 use Rattle.lie_letters.specs.PositiveTerms.{positive_terms}
 use Rattle.lie_letters.proofs.FrameExamples.{two, three, a1, a1_loaded, a1_table, a1_constants, a2, a2_loaded, a2_table, a2_constants}
@@ -45,7 +45,7 @@ a2_joined : IsRingWord over_three 3 swapped → RingJoined over_three 3 (positiv
 a2_joined word = collected_joined over_three (field_is_ring three) 3 (positive_terms a2_table) a2_collectable swapped (1 ∷ (1 ∷ (2 ∷ []))) word.0 word.1 a2_swapped
 
 -- the inverse of x_1(1) x_2(1) is x_1(2) x_2(2) x_3(2)
-a2_inverse : IsCollected over_three (positive_terms a2_table) nat_lt 3 (inverted over_three ((1, 1) ∷ ((2, 1) ∷ []))) (2 ∷ (2 ∷ (2 ∷ [])))
+a2_inverse : IsCollected over_three (positive_terms a2_table) nat_lt 3 (inverse_word over_three ((1, 1) ∷ ((2, 1) ∷ []))) (2 ∷ (2 ∷ (2 ∷ [])))
 unfolding three of_int neg add mul element residues shift leading degree order
 a2_inverse = record { last = (1, 2) ∷ ((2, 2) ∷ ((3, 2) ∷ [])); ends = by_step refl (at_end refl); list = refl }
 

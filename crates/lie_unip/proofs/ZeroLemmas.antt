@@ -8,7 +8,7 @@ use Rattle.std.specs.List.{range_with_len}
 use Rattle.lie_unip.specs.Dropping.{Dropped, nothing, kept, dropped}
 use Rattle.lie_ring.specs.Rings.{RingOn, IsElem, IsRing}
 use Rattle.lie_ring.specs.RingLemmas.{zero_add, mul_zero, zero_mul, neg_zero as neg_zero_of}
-use Rattle.lie_letters.specs.RingLetters.{RingLetter, CommutatorTerm, power, term_letters, inverted, OfElements, Within}
+use Rattle.lie_letters.specs.RingLetters.{RingLetter, CommutatorTerm, power, term_word, inverse_word, OfElements, Within}
 use Rattle.lie_unip.specs.Collection.{replacement, next_word, rewritten, Ends, at_end, by_step, IsCollected, ComeAfter, IsStrictOrder, AreCollectable}
 use Rattle.lie_unip.proofs.ElementLemmas.{rewritten-elem, power-elem, SomeOf}
 use Rattle.lie_unip.proofs.BoundLemmas.{rewritten-within, SomeWithin}
@@ -52,7 +52,7 @@ module _ {A : Type 0} (R : RingOn A) where
     zero_power (suc n) h = mul_zero R ring.laws (power R R.zero n) (power-elem R ring R.zero n ring.laws.zero_elem)
 
     -- the term letters at 0
-    pub zero_first : (m s : ℕ) (cs : List CommutatorTerm) (u : A) → IsElem R u → ComeAfter m s cs → Dropped R (term_letters R cs R.zero u) []
+    pub zero_first : (m s : ℕ) (cs : List CommutatorTerm) (u : A) → IsElem R u → ComeAfter m s cs → Dropped R (term_word R cs R.zero u) []
     zero_first m s [] u p h = nothing
     zero_first m s (c ∷ cs) u p h =
         let up = power R u c.j in
@@ -60,10 +60,10 @@ module _ {A : Type 0} (R : RingOn A) where
         ap (λ z. R.mul (R.of_int c.value) (R.mul z up)) (ap (λ z. power R z c.i) neg_zero ∙ zero_power c.i h.2)
         ∙ ap (R.mul (R.of_int c.value)) (zero_mul R ring.laws up (power-elem R ring u c.j p))
         ∙ mul_zero R ring.laws (R.of_int c.value) (ring.integers.int_elem c.value) in
-        subst (λ (z : A). Dropped R ((c.root, z) ∷ term_letters R cs R.zero u) []) (sym value) (dropped c.root (zero_first m s cs u p h.4))
+        subst (λ (z : A). Dropped R ((c.root, z) ∷ term_word R cs R.zero u) []) (sym value) (dropped c.root (zero_first m s cs u p h.4))
 
     -- the letters of terms at an element and 0 may be dropped
-    pub zero_second : (m s : ℕ) (cs : List CommutatorTerm) (t : A) → IsElem R t → ComeAfter m s cs → Dropped R (term_letters R cs t R.zero) []
+    pub zero_second : (m s : ℕ) (cs : List CommutatorTerm) (t : A) → IsElem R t → ComeAfter m s cs → Dropped R (term_word R cs t R.zero) []
     zero_second m s [] t p h = nothing
     zero_second m s (c ∷ cs) t p h =
         let tp = power R (R.neg t) c.i in
@@ -71,10 +71,10 @@ module _ {A : Type 0} (R : RingOn A) where
         ap (λ z. R.mul (R.of_int c.value) (R.mul tp z)) (zero_power c.j h.3)
         ∙ ap (R.mul (R.of_int c.value)) (mul_zero R ring.laws tp (power-elem R ring (R.neg t) c.i (ring.laws.neg_elem t p)))
         ∙ mul_zero R ring.laws (R.of_int c.value) (ring.integers.int_elem c.value) in
-        subst (λ (z : A). Dropped R ((c.root, z) ∷ term_letters R cs t R.zero) []) (sym value) (dropped c.root (zero_second m s cs t p h.4))
+        subst (λ (z : A). Dropped R ((c.root, z) ∷ term_word R cs t R.zero) []) (sym value) (dropped c.root (zero_second m s cs t p h.4))
 
     -- the inverse letters of a word that may be dropped
-    pub zero_inverted : {w v : List (RingLetter A)} → Dropped R w v → v ≡ [] → Dropped R (inverted R w) []
+    pub zero_inverted : {w v : List (RingLetter A)} → Dropped R w v → v ≡ [] → Dropped R (inverse_word R w) []
     zero_inverted nothing e = nothing
     zero_inverted (kept x d) e = absurd (cc)
     zero_inverted (dropped {w = w} r d) e =
@@ -87,7 +87,7 @@ module _ {A : Type 0} (R : RingOn A) where
       replaced_first r y a b c d p = go (eqb r y.0) refl (nat_lt y.0 r) refl
         where
           go : (f : Bool) → eqb r y.0 ≡ f → (g : Bool) → nat_lt y.0 r ≡ g
-              → Dropped R (cond f ((r, R.add R.zero y.1) ∷ []) (cond g (y ∷ (r, R.zero) ∷ term_letters R (terms y.0 r) y.1 R.zero) (y ∷ (r, R.zero) ∷ inverted R (term_letters R (terms r y.0) R.zero y.1)))) (y ∷ [])
+              → Dropped R (cond f ((r, R.add R.zero y.1) ∷ []) (cond g (y ∷ (r, R.zero) ∷ term_word R (terms y.0 r) y.1 R.zero) (y ∷ (r, R.zero) ∷ inverse_word R (term_word R (terms r y.0) R.zero y.1)))) (y ∷ [])
           go true e g f =
               let same : r ≡ y.0 = grind (arith, nat_tests) in
               let letter : ◌≡◌ {A = RingLetter A} (r, R.add R.zero y.1) y = ap₂ (λ (q : ℕ) (z : A). (q, z)) same (zero_add R ring.laws y.1 p) in
@@ -103,7 +103,7 @@ module _ {A : Type 0} (R : RingOn A) where
       replaced_second x s a b c d p = go (eqb x.0 s) refl (nat_lt s x.0) refl
         where
           go : (f : Bool) → eqb x.0 s ≡ f → (g : Bool) → nat_lt s x.0 ≡ g
-              → Dropped R (cond f ((x.0, R.add x.1 R.zero) ∷ []) (cond g ((s, R.zero) ∷ x ∷ term_letters R (terms s x.0) R.zero x.1) ((s, R.zero) ∷ x ∷ inverted R (term_letters R (terms x.0 s) x.1 R.zero)))) (x ∷ [])
+              → Dropped R (cond f ((x.0, R.add x.1 R.zero) ∷ []) (cond g ((s, R.zero) ∷ x ∷ term_word R (terms s x.0) R.zero x.1) ((s, R.zero) ∷ x ∷ inverse_word R (term_word R (terms x.0 s) x.1 R.zero)))) (x ∷ [])
           go true e g f =
               let letter : ◌≡◌ {A = RingLetter A} (x.0, R.add x.1 R.zero) x = ap (λ (z : A). (x.0, z)) (ring.laws.add_zero x.1 p) in
               subst (λ (z : RingLetter A). Dropped R (z ∷ []) (x ∷ [])) (sym letter) (kept x nothing)

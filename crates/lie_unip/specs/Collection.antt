@@ -11,15 +11,15 @@ use Rattle.std.specs.Option.{option_map, unwrap_or}
 use Rattle.std.specs.List.{range_with_len, All}
 use Rattle.std.specs.Map.{lookup}
 use Rattle.lie_ring.specs.Rings.{RingOn, Fits}
-use Rattle.lie_letters.specs.RingLetters.{RingLetter, CommutatorTerm, term_letters, inverted}
+use Rattle.lie_letters.specs.RingLetters.{RingLetter, CommutatorTerm, term_word, inverse_word}
 
 -- what takes the place of two neighbours: their sum at one root; else the two in the other order and the letters of their terms,
 -- which are reversed where the first root has the lesser number
 abbrev pub replacement : {A : Type 0} → RingOn A → (ℕ → ℕ → List CommutatorTerm) → RingLetter A → RingLetter A → List (RingLetter A)
 replacement R terms x y =
     cond (eqb x.0 y.0) ((x.0, R.add x.1 y.1) ∷ [])
-    (cond (nat_lt y.0 x.0) (y ∷ x ∷ term_letters R (terms y.0 x.0) y.1 x.1)
-    (y ∷ x ∷ inverted R (term_letters R (terms x.0 y.0) x.1 y.1)))
+    (cond (nat_lt y.0 x.0) (y ∷ x ∷ term_word R (terms y.0 x.0) y.1 x.1)
+    (y ∷ x ∷ inverse_word R (term_word R (terms x.0 y.0) x.1 y.1)))
 
 -- the word x w after the first pair of neighbours that has one root, or whose second root is before its first, is replaced
 abbrev pub next_word : {A : Type 0} → RingOn A → (ℕ → ℕ → List CommutatorTerm) → (ℕ → ℕ → Bool) → RingLetter A → List (RingLetter A) → Option (List (RingLetter A))

@@ -5,7 +5,7 @@
 --   h of a word   carried h w
 use Rattle.std.specs.Prelude.{◌≡◌, ℕ, Bool, List, [], ◌∷◌, ◌++◌, map, nat_lt}
 use Rattle.lie_ring.specs.Rings.{RingOn, IsElem}
-use Rattle.lie_letters.specs.RingLetters.{RingLetter, CommutatorTerm, full_word, inverted, IsRingWord, OfElements}
+use Rattle.lie_letters.specs.RingLetters.{RingLetter, CommutatorTerm, full_word, inverse_word, IsRingWord, OfElements}
 use Rattle.lie_letters.specs.RingRelations.{RingJoined}
 use Rattle.lie_unip.specs.Collection.{IsCollected, IsStrictOrder, AreEntries}
 use Rattle.lie_unip.specs.Dropping.{Dropped}
@@ -42,6 +42,6 @@ pub record CarriesAnswers {A B : Type 0} (R : RingOn A) (S : RingOn B) (h : A �
   pub multiplied : (m : ℕ) (u v w : List A) (z : List B) → AreEntries R m u → AreEntries R m v
       → IsCollected R terms nat_lt m (full_word u ++ full_word v) w → IsCollected S terms nat_lt m (full_word (map h u) ++ full_word (map h v)) z → z ≡ map h w
   pub inverted : (m : ℕ) (u v : List A) (z : List B) → AreEntries R m u
-      → IsCollected R terms nat_lt m (inverted R (full_word u)) v → IsCollected S terms nat_lt m (inverted S (full_word (map h u))) z → z ≡ map h v
+      → IsCollected R terms nat_lt m (inverse_word R (full_word u)) v → IsCollected S terms nat_lt m (inverse_word S (full_word (map h u))) z → z ≡ map h v
   pub split : (m : ℕ) (kept : ℕ → Bool) (u v w : List A) (x y : List B) → AreEntries R m u
       → IsSplit R terms m kept u v w → IsSplit S terms m kept (map h u) x y → (x ≡ map h v) × (y ≡ map h w)

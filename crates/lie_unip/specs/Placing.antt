@@ -8,7 +8,7 @@
 use Rattle.std.specs.Prelude.{◌≡◌, ℕ, Bool, true, false, cond, not, ◌+◌, ◌*◌, ◌-◌, ◌^◌, ◌<◌, ◌≤◌, ◌⊎◌, List, [], ◌∷◌, ◌++◌, length, set, slice_index_or, reverse, nat_lt, IsTrue}
 use Rattle.lie_const.specs.ConstantTables.{ConstantTable}
 use Rattle.lie_ring.specs.Rings.{RingOn, Fits}
-use Rattle.lie_letters.specs.RingLetters.{RingLetter, CommutatorTerm, IsRingWord, term_letters, inverted}
+use Rattle.lie_letters.specs.RingLetters.{RingLetter, CommutatorTerm, IsRingWord, term_word, inverse_word}
 use Rattle.lie_unip.specs.Collection.{IsCollected, AreEntries, AreCollectable}
 use Rattle.lie_letters.specs.PositiveTerms.{positive_terms}
 use Rattle.lie_unip.specs.Splitting.{kept_first, kept_at}
@@ -19,7 +19,7 @@ Leads {A} R terms before m w v = (u : List A) → IsCollected R terms before m v
 
 -- the letters that arise where the letter at r and a passes y
 abbrev pub crossing : {A : Type 0} → RingOn A → (ℕ → ℕ → List CommutatorTerm) → ℕ → A → RingLetter A → List (RingLetter A)
-crossing R terms r a y = cond (nat_lt r y.0) (term_letters R (terms r y.0) a y.1) (inverted R (term_letters R (terms y.0 r) y.1 a))
+crossing R terms r a y = cond (nat_lt r y.0) (term_word R (terms r y.0) a y.1) (inverse_word R (term_word R (terms y.0 r) y.1 a))
 
 -- a letter for each root of the list, with its element
 abbrev pub letters_at : {A : Type 0} → List ℕ → List A → List (RingLetter A)

@@ -76,22 +76,40 @@ impl<'a, R: Ring> Collector<'a, R> {
         self.roots[at]
     }
 
-    /// The first place behind that of a root whose element isn't 0 and whose root has terms with it.
-    fn first_met(&self, entries: &[R::Elem], at: usize) -> usize
+    /// The first place from which on all elements are 0.
+    fn end_of(&self, entries: &[R::Elem]) -> usize
         requires lawful { IsCollector (R.ring self.now.ring.now) self.now.zero self.now.consts.now self.now.kept.items self.now.roots.items self.now.places.items }
         requires entries { AreEntries (R.ring self.now.ring.now) (length self.now.roots.items) entries.now }
-        requires at { at < length self.now.roots.items }
-        ensures after { at < result }
         ensures within { result ≤ length self.now.roots.items }
+        ensures zeros { ZeroFrom (R.ring self.now.ring.now) result entries.now }
+    {
+        for k in (0..entries.len()).rev() {
+            if !self.ring.same(&entries[k], &self.zero) {
+                return k + 1;
+            }
+        }
+        0
+    }
+
+    /// The first place behind that of a root, up to `end`, whose element isn't 0 and whose root has
+    /// terms with it.
+    fn first_met(&self, entries: &[R::Elem], at: usize, end: usize) -> usize
+        requires lawful { IsCollector (R.ring self.now.ring.now) self.now.zero self.now.consts.now self.now.kept.items self.now.roots.items self.now.places.items }
+        requires entries { AreEntries (R.ring self.now.ring.now) (length self.now.roots.items) entries.now }
+        requires at { at < end }
+        requires end { end ≤ length self.now.roots.items }
+        ensures after { at < result }
+        ensures within { result ≤ end }
+        ensures bound { result ≤ length self.now.roots.items }
         ensures idle { IdleBetween (R.ring self.now.ring.now) (positive_terms self.now.consts.now) (slice_index_or self.now.roots.items at 0) self.now.roots.items (at + 1) result entries.now }
     {
         let root = self.root(at);
-        for k in at + 1..entries.len() {
+        for k in at + 1..end {
             if !self.ring.same(&entries[k], &self.zero) && !self.commute(root, self.root(k)) {
                 return k;
             }
         }
-        entries.len()
+        end
     }
 
     /// Puts the letters that arise where the letter at `root` and `a` passes that at `k` and `x` on
@@ -160,12 +178,14 @@ impl<'a, R: Ring> Collector<'a, R> {
         Ok(())
     }
 
-    /// Lets the letter at the root of place `at`, with `a`, pass all places from `first` on.
+    /// Lets the letter at the root of place `at`, with `a`, pass all places from `first` on, where
+    /// those from `end` on have 0.
     fn lift(
         &self,
         entries: &mut Vec<R::Elem>,
         todo: &mut Vec<(usize, R::Elem)>,
         first: usize,
+        end: usize,
         at: usize,
         a: &R::Elem,
     ) -> Result<(), AllocError>
@@ -173,42 +193,51 @@ impl<'a, R: Ring> Collector<'a, R> {
         requires entries { AreEntries (R.ring self.now.ring.now) (length self.now.roots.items) entries.old.items }
         requires todo { IsRingWord (R.ring self.now.ring.now) self.now.consts.now.positive (reverse todo.old.items) }
         requires later { at < first }
-        requires within { first ≤ length self.now.roots.items }
+        requires order { first ≤ end }
+        requires within { end ≤ length self.now.roots.items }
+        requires zeros { ZeroFrom (R.ring self.now.ring.now) end entries.old.items }
         requires a { Fits (R.ring self.now.ring.now) a.now }
         ensures { OnOk result (AreLifted (R.ring self.now.ring.now) (positive_terms self.now.consts.now) self.now.consts.now.positive (kept_at self.now.kept.items) self.now.roots.items (slice_index_or self.now.roots.items at 0) a.now first entries.old.items entries.new.items todo.old.items todo.new.items) }
     {
         let minus = roomy_neg(self.ring, self.alloc, a)?;
-        for place in (first..entries.len()).rev() {
+        for place in (first..end).rev() {
             self.lift_one(entries, todo, place, at, a, &minus)?;
         }
         Ok(())
     }
 
-    /// Places the letter at `root` and `a`; what it meets joins the letters still to be placed.
+    /// Places the letter at `root` and `a`; what it meets joins the letters still to be placed. All
+    /// elements from `end` on are 0, and afterwards those from the answer on.
     fn place(
         &self,
         entries: &mut Vec<R::Elem>,
         todo: &mut Vec<(usize, R::Elem)>,
+        end: usize,
         root: usize,
         a: &R::Elem,
-    ) -> Result<(), AllocError>
+    ) -> Result<usize, AllocError>
         requires lawful { IsCollector (R.ring self.now.ring.now) self.now.zero self.now.consts.now self.now.kept.items self.now.roots.items self.now.places.items }
         requires entries { AreEntries (R.ring self.now.ring.now) (length self.now.roots.items) entries.old.items }
         requires todo { IsRingWord (R.ring self.now.ring.now) self.now.consts.now.positive (reverse todo.old.items) }
         requires low { 1 ≤ root }
         requires high { root ≤ self.now.consts.now.positive }
         requires a { Fits (R.ring self.now.ring.now) a.now }
-        ensures { OnOk result (IsPlaced (R.ring self.now.ring.now) (positive_terms self.now.consts.now) self.now.consts.now.positive (kept_at self.now.kept.items) self.now.roots.items root a.now entries.old.items entries.new.items todo.old.items todo.new.items) }
+        requires within { end ≤ length self.now.roots.items }
+        requires zeros { ZeroFrom (R.ring self.now.ring.now) end entries.old.items }
+        ensures within { IfOk result (λ n. n ≤ length self.now.roots.items) }
+        ensures zeros { IfOk result (λ n. ZeroFrom (R.ring self.now.ring.now) n entries.new.items) }
+        ensures placed { OnOk result (IsPlaced (R.ring self.now.ring.now) (positive_terms self.now.consts.now) self.now.consts.now.positive (kept_at self.now.kept.items) self.now.roots.items root a.now entries.old.items entries.new.items todo.old.items todo.new.items) }
     {
         if self.ring.same(a, &self.zero) {
-            return Ok(());
+            return Ok(end);
         }
         let at = self.places[root - 1];
-        let first = self.first_met(entries, at);
-        self.lift(entries, todo, first, at, a)?;
+        let last = end.max(at + 1);
+        let first = self.first_met(entries, at, last);
+        self.lift(entries, todo, first, last, at, a)?;
         let sum = roomy_add(self.ring, self.alloc, &entries[at], a)?;
         entries[at] = sum;
-        Ok(())
+        Ok(first)
     }
 
     /// Collects the word of the elements with the letters behind it.
@@ -224,8 +253,9 @@ impl<'a, R: Ring> Collector<'a, R> {
         ensures collected { OnOk result (IsCollected (R.ring self.now.ring.now) (positive_terms self.now.consts.now) (kept_first (kept_at self.now.kept.items)) self.now.consts.now.positive (letters_at self.now.roots.items entries.old.items ++ reverse todo.items) (elements (R.ring self.now.ring.now) self.now.consts.now.positive (letters_at self.now.roots.items entries.new.items))) }
     {
         let mut todo = todo;
+        let mut end = self.end_of(entries);
         while let Some((root, a)) = todo.pop() {
-            self.place(entries, &mut todo, root, &a)?;
+            end = self.place(entries, &mut todo, end, root, &a)?;
         }
         Ok(())
     }

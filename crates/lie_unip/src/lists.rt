@@ -1,9 +1,10 @@
 //! Lists of elements, and the letters of full words.
 
 ghost use Rattle.std.specs.Prelude.{◌≡◌, ◌∷◌, [], nat_abs, reverse, replicate, IfOk, IsTrue};
-ghost use Rattle.std.specs.List.{All};
+ghost use Rattle.std.specs.List.{All, AllByRecursion};
 ghost use Rattle.lie_ring.specs.Rings.{RingOn, Fits};
-ghost use Rattle.lie_letters.specs.RingLetters.{full_word, inverted};
+ghost use Rattle.lie_letters.specs.RingLetters.{full_word, inverse_word};
+ghost use Rattle.lie_unip.specs.PositiveLetters.{by_place};
 
 use lie_datum::RootId;
 use lie_ring::{Ring, roomy_copy, roomy_neg, roomy_zero};
@@ -70,7 +71,7 @@ pub(crate) fn inverse_letters<R: Ring>(
 ) -> Result<Vec<(usize, R::Elem)>, AllocError>
     requires roomy { IsTrue (R.ring ring.now).roomy }
     requires fit { All (Fits (R.ring ring.now)) entries.now }
-    ensures { IfOk result (λ v. reverse v.items ≡ inverted (R.ring ring.now) (full_word entries.now)) }
+    ensures { IfOk result (λ v. reverse v.items ≡ inverse_word (R.ring ring.now) (full_word entries.now)) }
 {
     let mut todo = Vec::new(alloc);
     for k in 0..entries.len() {
@@ -78,6 +79,21 @@ pub(crate) fn inverse_letters<R: Ring>(
         todo.push((k + 1, minus))?;
     }
     Ok(todo)
+}
+
+/// A copy of a letter, at the place of its root.
+fn placed<R: Ring>(
+    ring: &R,
+    alloc: Global,
+    r: RootId,
+    a: &R::Elem,
+) -> Result<(usize, R::Elem), AllocError>
+    requires roomy { IsTrue (R.ring ring.now).roomy }
+    requires fits { Fits (R.ring ring.now) a.now }
+    ensures { IfOk result (λ x. x ≡ (nat_abs r, a.now)) }
+{
+    let copy = roomy_copy(ring, alloc, a)?;
+    Ok((r.number().unsigned_abs() as usize, copy))
 }
 
 /// One letter, at a positive root.
@@ -91,8 +107,27 @@ pub(crate) fn one_letter<R: Ring>(
     requires fits { Fits (R.ring ring.now) a.now }
     ensures { IfOk result (λ v. v.items ≡ (nat_abs r, a.now) ∷ []) }
 {
-    let copy = roomy_copy(ring, alloc, a)?;
     let mut todo = Vec::new(alloc);
-    todo.push((r.number().unsigned_abs() as usize, copy))?;
+    let letter = placed(ring, alloc, r, a)?;
+    todo.push(letter)?;
+    Ok(todo)
+}
+
+/// The letters by the places of their roots, the first one last.
+pub(crate) fn reversed_letters<R: Ring>(
+    ring: &R,
+    alloc: Global,
+    letters: &[(RootId, R::Elem)],
+) -> Result<Vec<(usize, R::Elem)>, AllocError>
+    requires roomy { IsTrue (R.ring ring.now).roomy }
+    requires fit { AllByRecursion (λ x. Fits (R.ring ring.now) x.1) letters.now }
+    ensures { IfOk result (λ v. reverse v.items ≡ by_place letters.now) }
+{
+    let mut todo = Vec::new(alloc);
+    for k in (0..letters.len()).rev() {
+        let (r, a) = &letters[k];
+        let letter = placed(ring, alloc, *r, a)?;
+        todo.push(letter)?;
+    }
     Ok(todo)
 }

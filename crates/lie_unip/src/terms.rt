@@ -2,7 +2,7 @@
 
 ghost use Rattle.std.specs.Prelude.{◌≡◌, ◌++◌, map, reverse, IfOk, OnOk, IsTrue};
 ghost use Rattle.lie_ring.specs.Rings.{RingOn, Fits};
-ghost use Rattle.lie_letters.specs.RingLetters.{power, term_letters, inverted};
+ghost use Rattle.lie_letters.specs.RingLetters.{power, term_word, inverse_word};
 ghost use Rattle.lie_letters.specs.PositiveTerms.{positive_term};
 
 use lie_const::Term;
@@ -77,7 +77,7 @@ pub(crate) fn put_terms<R: Ring>(
     requires minus { minus.now ≡ (R.ring ring.now).neg t.now }
     requires minus_fits { Fits (R.ring ring.now) minus.now }
     requires u { Fits (R.ring ring.now) u.now }
-    ensures { OnOk result (reverse todo.new.items ≡ term_letters (R.ring ring.now) (map positive_term terms.now) t.now u.now ++ reverse todo.old.items) }
+    ensures { OnOk result (reverse todo.new.items ≡ term_word (R.ring ring.now) (map positive_term terms.now) t.now u.now ++ reverse todo.old.items) }
 {
     for k in (0..terms.len()).rev() {
         let term = &terms[k];
@@ -101,7 +101,7 @@ pub(crate) fn put_inverse_terms<R: Ring>(
     requires minus { minus.now ≡ (R.ring ring.now).neg t.now }
     requires minus_fits { Fits (R.ring ring.now) minus.now }
     requires u { Fits (R.ring ring.now) u.now }
-    ensures { OnOk result (reverse todo.new.items ≡ inverted (R.ring ring.now) (term_letters (R.ring ring.now) (map positive_term terms.now) t.now u.now) ++ reverse todo.old.items) }
+    ensures { OnOk result (reverse todo.new.items ≡ inverse_word (R.ring ring.now) (term_word (R.ring ring.now) (map positive_term terms.now) t.now u.now) ++ reverse todo.old.items) }
 {
     for k in 0..terms.len() {
         let term = &terms[k];

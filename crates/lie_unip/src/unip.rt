@@ -4,14 +4,15 @@ ghost use Rattle.std.specs.Prelude.{◌≡◌, ℕ, ℤ, pos, ◌-◌, ◌≤◌
 ghost use Rattle.lie_ring.specs.Rings.{RingOn, Fits};
 ghost use Rattle.lie_datum.specs.RootList.{IsNumber};
 ghost use Rattle.lie_const.specs.ConstantTables.{LoadsConstants};
-ghost use Rattle.lie_letters.specs.RingLetters.{full_word, inverted};
+ghost use Rattle.lie_letters.specs.RingLetters.{full_word, inverse_word};
 ghost use Rattle.lie_letters.specs.PositiveTerms.{positive_terms};
 ghost use Rattle.lie_unip.specs.Collection.{AreEntries, IsCollected};
+ghost use Rattle.lie_unip.specs.PositiveLetters.{ArePositiveLetters, by_place};
 ghost use Rattle.lie_unip.specs.Splitting.{IsSplit, kept_at, kept_by};
 ghost use Rattle.lie_weyl.specs.WeylElement.{IsElement, Spells};
 
 use crate::collector::Collector;
-use crate::lists::{copied, inverse_letters, letters, one_letter, zeros};
+use crate::lists::{copied, inverse_letters, letters, one_letter, reversed_letters, zeros};
 use crate::orders::collect_in_order;
 use lie_const::Constants;
 use lie_datum::{Datum, RootId};
@@ -56,6 +57,13 @@ impl<R: Ring> Unip<R> {
         &self.entries[k - 1]
     }
 
+    /// The elements, in the order of the roots.
+    pub fn entries(&self) -> &[R::Elem]
+        ensures { result.now ≡ self.now }
+    {
+        self.entries.as_slice()
+    }
+
     /// The full word with `x_r(a)` appended, collected.
     pub fn push(
         &self,
@@ -77,6 +85,28 @@ impl<R: Ring> Unip<R> {
     {
         let entries = copied(ring, alloc, &self.entries)?;
         let todo = one_letter(ring, alloc, r, a)?;
+        let entries = collect_in_order(alloc, ring, datum, consts, entries, todo)?;
+        Ok(Unip { entries })
+    }
+
+    /// The full word with these letters behind it, collected.
+    pub fn append(
+        &self,
+        alloc: Global,
+        ring: &R,
+        datum: &Datum,
+        consts: &Constants,
+        letters: &[(RootId, R::Elem)],
+    ) -> Result<Unip<R>, AllocError>
+        requires roomy { IsTrue (R.ring ring.now).roomy }
+        requires constants { LoadsConstants datum.now (Ok consts.now) }
+        requires entries { AreEntries (R.ring ring.now) (length datum.now.positive) self.now }
+        requires letters { ArePositiveLetters (R.ring ring.now) datum.now letters.now }
+        ensures entries { IfOk result (AreEntries (R.ring ring.now) (length datum.now.positive)) }
+        ensures collected { IfOk result (IsCollected (R.ring ring.now) (positive_terms consts.now) nat_lt (length datum.now.positive) (full_word self.now ++ by_place letters.now)) }
+    {
+        let entries = copied(ring, alloc, &self.entries)?;
+        let todo = reversed_letters(ring, alloc, letters)?;
         let entries = collect_in_order(alloc, ring, datum, consts, entries, todo)?;
         Ok(Unip { entries })
     }
@@ -115,7 +145,7 @@ impl<R: Ring> Unip<R> {
         requires constants { LoadsConstants datum.now (Ok consts.now) }
         requires entries { AreEntries (R.ring ring.now) (length datum.now.positive) self.now }
         ensures entries { IfOk result (AreEntries (R.ring ring.now) (length datum.now.positive)) }
-        ensures collected { IfOk result (IsCollected (R.ring ring.now) (positive_terms consts.now) nat_lt (length datum.now.positive) (inverted (R.ring ring.now) (full_word self.now))) }
+        ensures collected { IfOk result (IsCollected (R.ring ring.now) (positive_terms consts.now) nat_lt (length datum.now.positive) (inverse_word (R.ring ring.now) (full_word self.now))) }
     {
         datum.loaded();
         let entries = zeros(ring, alloc, datum.m())?;

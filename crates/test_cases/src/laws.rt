@@ -1,13 +1,9 @@
 //! Each law that is a public function of a crate, called once.
 
-ghost use Rattle.std.specs.Prelude.{Ok};
-ghost use Rattle.lie_const.specs.ConstantTables.{LoadsConstants};
-
 use crate::{A_2, NamedDatum};
-use lie_const::Constants;
 use lie_datum::Datum;
 use lie_field::Field;
-use lie_ring::{FromIntegers, Ints};
+use lie_ring::FromIntegers;
 use std::alloc::Global;
 use std::process::Abort;
 
@@ -39,6 +35,7 @@ fn laws_of_weyl_elements(_rt: HostRuntime) {
     lie_weyl::exchange();
     lie_weyl::greedy_is_least();
     lie_weyl::orders_of_products();
+    lie_weyl::images_determine_action();
 }
 
 #[test]
@@ -47,26 +44,10 @@ fn laws_of_constants(rt: HostRuntime) {
     lie_const::one_answer();
 }
 
-/// The constants of a datum.
-fn constants(rt: &impl Abort, alloc: Global, datum: &Datum) -> Constants
-    ensures { LoadsConstants datum.now (Ok result) }
-{
-    Constants::load(alloc, datum).expect(rt, "loads")
-}
-
-/// The field of five elements.
-fn field(rt: &impl Abort, alloc: Global) -> Field {
-    Field::load(alloc, 5, 1, &[0], 2).expect(rt, "a field")
-}
-
 #[test]
-fn laws_of_collection(rt: HostRuntime) {
-    let alloc = rt.alloc();
-    let field = field(&rt, alloc);
-    let datum = datum(&rt, alloc);
-    let consts = constants(&rt, alloc, &datum);
-    lie_unip::collects_once(&field, &datum, &consts);
-    lie_unip::drops_zeros(&field, &datum, &consts);
-    lie_unip::joins_answers(&field, &datum, &consts);
-    lie_unip::carries_answers(&FromIntegers::new(&Ints, &field), &consts);
+fn laws_of_collection(_rt: HostRuntime) {
+    lie_unip::collects_once::<Field>();
+    lie_unip::drops_zeros::<Field>();
+    lie_unip::joins_answers::<Field>();
+    lie_unip::carries_answers::<FromIntegers<'_, Field>>();
 }

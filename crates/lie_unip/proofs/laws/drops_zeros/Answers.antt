@@ -1,21 +1,16 @@
-use Rattle.std.proofs.Common.{length, subst}
+use Rattle.std.proofs.Common.{length}
 use Rattle.lie_letters.specs.PositiveTerms.{positive_terms}
-use Rattle.lie_unip.specs.Collection.{AreCollectable}
-use Rattle.lie_unip.proofs.DatumLemmas.{table_collectable}
+use Rattle.lie_unip.proofs.DatumLemmas.{datum_collectable}
 use Rattle.lie_unip.proofs.ZeroLemmas.{IsCollected-dropped}
 use Rattle.lie_unip.proofs.FullWordLemmas.{IsCollected-added}
 use Rattle.lie_unip.proofs.laws.drops_zeros.Goals as goal
 
 pub returns : goal.returns
-returns g c =
-    let d = c.args.datum.now in
-    let t = c.args.consts.now in
-    let R = g.R.Ring.ring c.args.ring.now in
-    let ring = g.met.R.Ring.is_ring c.args.ring.now in
-    let m = length d.positive in
-    let terms = positive_terms t in
-    let collectable = subst (λ n. AreCollectable n terms) c.requires.0 (table_collectable d c.loaded.ensures t c.requires) in
+returns g c = λ r d t loaded loads.
+    let R = g.R.Ring.ring r in
+    let ring = g.met.R.Ring.is_ring r in
+    let collectable = datum_collectable d loaded t loads in
     record {
-      without = λ before order w v u d l. IsCollected-dropped R ring m terms collectable before order w v u d l.0 l.1;
-      with = IsCollected-added R ring m terms collectable;
+      without = λ before order w v u e l. IsCollected-dropped R ring (length d.positive) (positive_terms t) collectable before order w v u e l.0 l.1;
+      with = IsCollected-added R ring (length d.positive) (positive_terms t) collectable;
     }

@@ -18,11 +18,13 @@ loop-root-preserved g c =
     let m = self.consts.now.positive in
     let terms = positive_terms self.consts.now in
     let kept = kept_at self.kept.items in
-    let placed = c.in_ok-place.ensures in
+    let placed = c.in_ok-end.ensures.placed in
     let ks = self.roots.items in
     let x : RingLetter g.row.R-Elem.Denot = (c.in-Some.root, c.in-Some.a) in
     record {
       entries = placed.entries;
+      within = c.in_ok-end.ensures.within;
+      zeros = c.in_ok-end.ensures.zeros;
       lawful = placed.lawful;
       leads = leads_on R terms (kept_first kept) m (letters_at ks c.args.entries.now.items ++ reverse c.args.todo.items) (letters_at ks c.loop-root.entries.items) (letters_at ks c.place.new.entries.items)
           c.pop.new.self.items c.place.new.todo.items c.loop-root.todo.items x c.in-Some.ensures.items c.loop-root.invariant.leads placed.leads;

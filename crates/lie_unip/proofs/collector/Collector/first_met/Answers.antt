@@ -1,4 +1,4 @@
-use Rattle.std.proofs.Common.{◌≡◌, ◌+◌, inl, inr, get_or, sym, ◌∙◌, ap₂, arith}
+use Rattle.std.proofs.Common.{◌≡◌, ◌+◌, ◌<◌, length, inl, inr, get_or, sym, ◌∙◌, ap₂, arith}
 use Rattle.std.proofs.lemmas.List.{get_or_read}
 use Rattle.lie_letters.specs.PositiveTerms.{positive_terms}
 use Rattle.lie_unip.specs.Splitting.{kept_at}
@@ -12,9 +12,9 @@ pub commute-requires-clause-other : goal.commute-requires-clause-other
 commute-requires-clause-other g c =
     let ks = c.args.self.now.roots.items in
     let test = c.loop-k-test.true in
-    let count = c.requires.entries.count in
+    let within = c.requires.end in
     let from = c.loop-k.auto.k in
-    λ e. different_at (kept_at c.args.self.now.kept.items) ks c.args.at c.loop-k.k c.requires.lawful.sorted (omega (arith, from)) (omega (arith, test, count))
+    λ e. different_at (kept_at c.args.self.now.kept.items) ks c.args.at c.loop-k.k c.requires.lawful.sorted (omega (arith, from)) (omega (arith, test, within))
     (sym c.root-root.ensures.value ∙ e ∙ c.root.ensures.value)
 
 pub loop-k-preserved : goal.loop-k-preserved
@@ -26,7 +26,11 @@ loop-k-preserved g c =
     let entries = c.args.entries.now in
     let r = get_or ks c.args.at 0 in
     let terms = positive_terms self.consts.now in
-    let read : c.index-entries-k.result ≡ get_or entries k R.zero = get_or_read entries k _ c.loop-k-test.true c.index-entries-k.is R.zero in
+    let test = c.loop-k-test.true in
+    let within = c.requires.end in
+    let count = c.requires.entries.count in
+    let inside : k < length entries = omega (arith, test, within, count) in
+    let read : c.index-entries-k.result ≡ get_or entries k R.zero = get_or_read entries k _ inside c.index-entries-k.is R.zero in
     idle_more R terms r ks (c.args.at + 1) k entries c.loop-k.invariant
     (elim c.else-not-same.branch [
       | else-not-same-via-then-not-same+else-not-commute w ↦ inr (sym (ap₂ (λ p q. terms_between terms p q) c.root-root.ensures.value w.root.ensures.value) ∙ w.commute.ensures.0 w.if-not-commute.false)

@@ -3,19 +3,19 @@ use Rattle.std.proofs.lemmas.List.{get_or_read}
 use Rattle.lie_letters.specs.PositiveTerms.{positive_terms}
 use Rattle.lie_unip.specs.Splitting.{kept_at}
 use Rattle.lie_unip.specs.Placing.{IdleBetween, AreLifted}
-use Rattle.lie_unip.proofs.PlacingLemmas.{placed, placed_zero}
+use Rattle.lie_unip.proofs.PlacingLemmas.{placed, placed_zero, zeros_behind}
 use Rattle.lie_unip.proofs.collector.Collector.place.Goals as goal
 
-pub returns-then-same : goal.returns-then-same
-returns-then-same g c =
+pub returns-then-same-clause-placed : goal.returns-then-same-clause-placed
+returns-then-same-clause-placed g c =
     let self = c.args.self.now in
     let lawful = c.requires.lawful in
     placed_zero (g.R.Ring.ring self.ring.now) (g.met.R.Ring.is_ring self.ring.now) self.consts.now.positive (positive_terms self.consts.now) lawful.collectable (kept_at self.kept.items) lawful.apart
     self.roots.items lawful.sorted lawful.within c.args.root 0 c.args.a.now c.args.entries.now.items c.args.todo.now.items c.requires.low c.requires.high
     (c.same.ensures.0 c.if-same.true ∙ lawful.zero_is) c.requires.entries c.requires.todo
 
-pub returns : goal.returns
-returns g c =
+pub returns-clause-placed : goal.returns-clause-placed
+returns-clause-placed g c =
     let self = c.args.self.now in
     let R = g.R.Ring.ring self.ring.now in
     let m = self.consts.now.positive in
@@ -44,5 +44,9 @@ returns g c =
     let inside : p < length after = omega (arith, within, long) in
     let b : c.index.result.now ≡ get_or after p R.zero = get_or_read after p _ inside c.index.ensures R.zero in
     placed R (g.met.R.Ring.is_ring self.ring.now) m terms lawful.collectable kept lawful.apart ks lawful.sorted lawful.within r p f c.args.a.now c.index.result.now c.in_ok-sum.sum
-    before after c.args.todo.now.items c.lift.new.todo.items (sym root) within c.first_met-first.ensures.after c.first_met-first.ensures.within met lifted c.requires.a.0 b
+    before after c.args.todo.now.items c.lift.new.todo.items (sym root) within c.first_met-first.ensures.after c.first_met-first.ensures.bound met lifted c.requires.a.0 b
     c.in_ok-sum.ensures.value c.in_ok-sum.ensures.fits
+
+pub returns-clause-zeros : goal.returns-clause-zeros
+returns-clause-zeros g c =
+    zeros_behind (g.R.Ring.ring c.args.self.now.ring.now) c.lift.new.entries.items c.index-at.result.now c.first_met-first.result c.in_ok-sum.sum c.first_met-first.ensures.after c.in_ok-lift.ensures.after
