@@ -1,5 +1,5 @@
 -- The weights of built modules have small coordinates.
-use Rattle.std.proofs.Common.{◌≡◌, ℕ, ◌+◌, ◌-◌, ◌<◌, ◌≤◌, ℤ, pos, get_or, replicate, sym, ap, subst, ◌∙◌, arith, unsigned_abs, inl, inr, zero-add, length}
+use Rattle.std.proofs.Common.{◌≡◌, ℕ, ◌+◌, ◌-◌, ◌<◌, ◌≤◌, pos, [], get_or, replicate, sym, ap, subst, ◌∙◌, arith, unsigned_abs, inl, inr, zero-add}
 use Rattle.std.specs.List.{All, range_with_len}
 use Rattle.std.proofs.lemmas.Bool.{cases_lt}
 use Rattle.std.proofs.lemmas.List.{get_or_default}

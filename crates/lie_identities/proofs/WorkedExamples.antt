@@ -1,6 +1,6 @@
 -- The relations at work on the natural module of SL_2, with the weights 1 and -1, and on one with a 2 in place of a 1.
 -- No relation of A_1 reads a structure constant, so the table of constants is any.
-use Rattle.std.proofs.Common.{◌≡◌, ℕ, ℤ, pos, negsuc, List, [], ◌∷◌, replicate, refl}
+use Rattle.std.proofs.Common.{◌≡◌, ℤ, pos, negsuc, [], ◌∷◌, replicate, refl}
 use Rattle.lie_ring.specs.Matrices.{Matrix, entry}
 use Rattle.lie_datum.specs.Vectors.{Vector}
 use Rattle.lie_datum.specs.RootDatum.{simple}
@@ -9,7 +9,6 @@ use Rattle.lie_const.specs.ConstantTables.{ConstantTable}
 use Rattle.lie_const.specs.Modules.{Module, root_element}
 use Rattle.lie_const.specs.Signs.{Signs}
 use Rattle.lie_poly.specs.Polynomials.{monomial, laurent}
-use Rattle.lie_identities.specs.declared.relations.Rel.{Rel}
 use Rattle.lie_identities.specs.declared.relations.Rel.TheVariants.{S1, S6, S7}
 use Rattle.lie_identities.specs.AuditRelations.{relations}
 use Rattle.lie_identities.specs.Audit.{left_matrix, right_matrix, IsIdentity}

@@ -153,7 +153,7 @@ module _ {A B : Type 0} (R : RingOn A) (S : RingOn B) (h : A → B) (ring : IsRi
         answer_carried R S h ring target hom terms nat_lt m (full_word u ++ full_word v) (full_word (map h u) ++ full_word (map h v)) w z
         (OfElements-append R (full_word u) (full_word v) (full_elements 1 u e.fit) (full_elements 1 v f.fit))
         (carried-append h (full_word u) (full_word v) ∙ ap₂ ◌++◌ (carried-full_from R S h ring target hom terms nat_lt 1 u) (carried-full_from R S h ring target hom terms nat_lt 1 v)) c d;
-    inverse_word = λ m u v z e c d.
+    inverted = λ m u v z e c d.
         answer_carried R S h ring target hom terms nat_lt m (inverse_word R (full_word u)) (inverse_word S (full_word (map h u))) v z
         (inverse_word-elem R ring (full_word u) (full_elements 1 u e.fit))
         (carried-inverse_word R S h ring target hom (full_word u) (full_elements 1 u e.fit) ∙ ap (inverse_word S) (carried-full_from R S h ring target hom terms nat_lt 1 u)) c d;

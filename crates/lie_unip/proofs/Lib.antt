@@ -18,3 +18,4 @@ pub mod PartLemmas
 mod WorkedExamples
 pub mod FrontLemmas
 pub mod PositiveLetterLemmas
+pub mod RowLemmas

@@ -68,6 +68,15 @@ weight n m kept (x ∷ w) = (8 * n + 2) ^ rank_of m kept x.0 + weight n m kept w
 abbrev pub IdleBetween : {A : Type 0} → RingOn A → (ℕ → ℕ → List CommutatorTerm) → ℕ → List ℕ → ℕ → ℕ → List A → Type 0
 IdleBetween R terms r ks i k c = (j : ℕ) → i ≤ j → j < k → (slice_index_or c j R.zero ≡ R.zero) ⊎ (terms_between terms r (slice_index_or ks j 0) ≡ [])
 
+-- the places from i up to n whose root has terms with r, in order
+abbrev pub IsRow : (ℕ → ℕ → List CommutatorTerm) → ℕ → List ℕ → ℕ → ℕ → List ℕ → Type 0
+IsRow terms r ks i n [] = (j : ℕ) → i ≤ j → j < n → terms_between terms r (slice_index_or ks j 0) ≡ []
+IsRow terms r ks i n (q ∷ row) = (i ≤ q) × (q < n) × ((j : ℕ) → i ≤ j → j < q → terms_between terms r (slice_index_or ks j 0) ≡ []) × IsRow terms r ks (q + 1) n row
+
+-- for each place of the first ones, the later places whose roots have terms with the root there
+abbrev pub AreRows : (ℕ → ℕ → List CommutatorTerm) → List ℕ → List (List ℕ) → Type 0
+AreRows terms ks rows = (p : ℕ) → p < length rows → IsRow terms (slice_index_or ks p 0) ks (p + 1) (length ks) (slice_index_or rows p [])
+
 -- each place from i on has 0
 abbrev pub ZeroFrom : {A : Type 0} → RingOn A → ℕ → List A → Type 0
 ZeroFrom R i c = (j : ℕ) → i ≤ j → slice_index_or c j R.zero ≡ R.zero

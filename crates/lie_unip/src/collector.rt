@@ -7,8 +7,9 @@ ghost use Rattle.lie_letters.specs.RingLetters.{IsRingWord};
 ghost use Rattle.lie_unip.specs.Collection.{AreEntries, IsCollected, elements};
 ghost use Rattle.lie_letters.specs.PositiveTerms.{positive_terms};
 ghost use Rattle.lie_unip.specs.Splitting.{kept_at, kept_first};
-ghost use Rattle.lie_unip.specs.Placing.{IsCollector, letters_at, crossing, terms_between, IdleBetween, ZeroFrom, IsLifted, AreLifted, IsPlaced};
+ghost use Rattle.lie_unip.specs.Placing.{IsCollector, letters_at, crossing, terms_between, AreRows, IdleBetween, ZeroFrom, IsLifted, AreLifted, IsPlaced};
 
+use crate::rows::Row;
 use crate::terms::{put_inverse_terms, put_terms};
 use lie_const::{Constants, Term};
 use lie_datum::RootId;
@@ -48,7 +49,7 @@ impl<'a, R: Ring> Collector<'a, R> {
     }
 
     /// Whether two roots, the one or the other first, have no terms.
-    fn commute(&self, r: usize, s: usize) -> bool
+    pub(crate) fn commute(&self, r: usize, s: usize) -> bool
         requires lawful { IsCollector (R.ring self.now.ring.now) self.now.zero self.now.consts.now self.now.kept.items self.now.roots.items self.now.places.items }
         requires r { 1 ≤ r }
         requires r_last { r ≤ self.now.consts.now.positive }
@@ -66,7 +67,7 @@ impl<'a, R: Ring> Collector<'a, R> {
     }
 
     /// The root at a place of the sorted word.
-    fn root(&self, at: usize) -> usize
+    pub(crate) fn root(&self, at: usize) -> usize
         requires lawful { IsCollector (R.ring self.now.ring.now) self.now.zero self.now.consts.now self.now.kept.items self.now.roots.items self.now.places.items }
         requires at { at < length self.now.roots.items }
         ensures value { result ≡ slice_index_or self.now.roots.items at 0 }
@@ -93,7 +94,7 @@ impl<'a, R: Ring> Collector<'a, R> {
 
     /// The first place behind that of a root, up to `end`, whose element isn't 0 and whose root has
     /// terms with it.
-    fn first_met(&self, entries: &[R::Elem], at: usize, end: usize) -> usize
+    pub(crate) fn first_behind(&self, entries: &[R::Elem], at: usize, end: usize) -> usize
         requires lawful { IsCollector (R.ring self.now.ring.now) self.now.zero self.now.consts.now self.now.kept.items self.now.roots.items self.now.places.items }
         requires entries { AreEntries (R.ring self.now.ring.now) (length self.now.roots.items) entries.now }
         requires at { at < end }
@@ -212,6 +213,7 @@ impl<'a, R: Ring> Collector<'a, R> {
         &self,
         entries: &mut Vec<R::Elem>,
         todo: &mut Vec<(usize, R::Elem)>,
+        rows: &[Row],
         end: usize,
         root: usize,
         a: &R::Elem,
@@ -222,6 +224,7 @@ impl<'a, R: Ring> Collector<'a, R> {
         requires low { 1 ≤ root }
         requires high { root ≤ self.now.consts.now.positive }
         requires a { Fits (R.ring self.now.ring.now) a.now }
+        requires rows { AreRows (positive_terms self.now.consts.now) self.now.roots.items rows.now }
         requires within { end ≤ length self.now.roots.items }
         requires zeros { ZeroFrom (R.ring self.now.ring.now) end entries.old.items }
         ensures within { IfOk result (λ n. n ≤ length self.now.roots.items) }
@@ -233,7 +236,7 @@ impl<'a, R: Ring> Collector<'a, R> {
         }
         let at = self.places[root - 1];
         let last = end.max(at + 1);
-        let first = self.first_met(entries, at, last);
+        let first = self.first_met(rows, entries, at, last);
         self.lift(entries, todo, first, last, at, a)?;
         let sum = roomy_add(self.ring, self.alloc, &entries[at], a)?;
         entries[at] = sum;
@@ -253,9 +256,10 @@ impl<'a, R: Ring> Collector<'a, R> {
         ensures collected { OnOk result (IsCollected (R.ring self.now.ring.now) (positive_terms self.now.consts.now) (kept_first (kept_at self.now.kept.items)) self.now.consts.now.positive (letters_at self.now.roots.items entries.old.items ++ reverse todo.items) (elements (R.ring self.now.ring.now) self.now.consts.now.positive (letters_at self.now.roots.items entries.new.items))) }
     {
         let mut todo = todo;
+        let rows = self.rows(todo.len())?;
         let mut end = self.end_of(entries);
         while let Some((root, a)) = todo.pop() {
-            end = self.place(entries, &mut todo, end, root, &a)?;
+            end = self.place(entries, &mut todo, &rows, end, root, &a)?;
         }
         Ok(())
     }

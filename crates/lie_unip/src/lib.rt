@@ -14,6 +14,7 @@ mod collector;
 mod laws;
 mod lists;
 mod orders;
+mod rows;
 mod terms;
 mod unip;
 

@@ -1,13 +1,11 @@
 -- The definitions at work on the rank two with c_12 = -1 and c_21 = -2, and the orbit of (1, 0): (1, 0), (-1, 1), (1, -1), (-1, 0).
 -- The coroots are unit vectors. r_3 = a_1 + a_2 is lowered to a_1 by s_2, and the sign of 2 and a_1 is -1.
-use Rattle.std.proofs.Common.{◌≡◌, ℕ, ◌≤◌, ◌<◌, ℤ, pos, negsuc, neg_ℤ, List, [], ◌∷◌, replicate, refl, arith}
-use Rattle.lie_ring.specs.Integers.{integers}
-use Rattle.lie_ring.specs.Powers.{power}
-use Rattle.lie_ring.specs.Matrices.{Matrix, product, scaled}
+use Rattle.std.proofs.Common.{◌≡◌, ℤ, pos, negsuc, List, [], ◌∷◌, replicate, refl}
+use Rattle.lie_ring.specs.Matrices.{Matrix}
 use Rattle.lie_datum.specs.Vectors.{Vector}
 use Rattle.lie_datum.specs.RootDatum.{simple}
 use Rattle.lie_datum.specs.RootList.{RootDatum}
-use Rattle.lie_const.specs.Modules.{Module, divided_power, root_element, weyl_element, weyl_inverse}
+use Rattle.lie_const.specs.Modules.{Module, root_element, weyl_element, weyl_inverse}
 use Rattle.lie_const.specs.Signs.{Signs}
 use Rattle.lie_weight.specs.OrbitModules.{step_matrix}
 use Rattle.lie_weight.specs.Conjugation.{conjugated, IsConjugate, absolute_height, reflected_height}

@@ -14,7 +14,7 @@ use lie_orbit::{lower, pairing};
 use lie_ring::Ints;
 use lie_weight::{Module, ModuleFault};
 use std::alloc::Global;
-use test_rows::{Answer, Roots, Stop, numbered, padded, pair, start};
+use test_rows::{Answer, Roots, Stop, constants, numbered, padded, pair, start};
 
 /// Answers a question about modules; false where it is about something else.
 pub(crate) fn about_spaces(
@@ -95,7 +95,8 @@ pub(crate) fn adjoint(alloc: Global, roots: &Roots) -> Result<Module, Stop>
     ensures space { IfOk result (IsModule roots.now.datum) }
     ensures positive { IfOk result (λ v. v.positive ≡ length roots.now.datum.positive) }
 {
-    Ok(Module::adjoint(alloc, &roots.datum, &roots.consts)?)
+    let consts = constants(alloc, &roots.datum)?;
+    Ok(Module::adjoint(alloc, &roots.datum, &consts)?)
 }
 
 /// Writes the weights of a module.

@@ -13,5 +13,5 @@ mod stops;
 
 pub use answers::{Answer, index, padded, pair, read_lists, row, single, start};
 pub use fields::{elements, entry, load_field};
-pub use loading::{Roots, load_datum, numbered, simple_index};
+pub use loading::{Roots, constants, load_datum, numbered, simple_index};
 pub use stops::Stop;

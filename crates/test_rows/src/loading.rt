@@ -7,7 +7,7 @@ ghost use Rattle.lie_const.specs.ConstantTables.{LoadsConstants};
 
 use crate::answers::{Answer, index, padded, read_lists};
 use crate::stops::Stop;
-use lie_const::Constants;
+use lie_const::{ConstFault, Constants};
 use lie_datum::{Datum, DatumFault, RootId, Vector};
 use std::alloc::{AllocError, Global};
 use test_cases::NamedDatum;
@@ -17,7 +17,6 @@ use test_cases::NamedDatum;
 pub struct Roots {
     pub datum: Datum,
     pub consts: Constants,
-    ghost loads: { LoadsConstants datum (Ok consts) },
     ghost positive: { consts.positive ≡ length datum.positive },
 }
 
@@ -48,13 +47,20 @@ fn datum_of(
     Datum::load(alloc, d, roots, coroots)
 }
 
+/// `Constants::load` with one clause.
+fn constants_of(alloc: Global, datum: &Datum) -> Result<Constants, ConstFault>
+    ensures { IfOk result (λ c. c.positive ≡ length datum.now.positive) }
+{
+    Constants::load(alloc, datum)
+}
+
 /// The datum with its constants; writes its sizes, or the fault of its constants.
 fn with_constants(
     alloc: Global,
     datum: Datum,
     answer: &mut Answer,
 ) -> Result<Option<Roots>, AllocError> {
-    match Constants::load(alloc, &datum) {
+    match constants_of(alloc, &datum) {
         Ok(consts) => {
             answer.number(datum.d() as i128)?;
             answer.next(&[datum.l() as i128])?;
@@ -65,6 +71,16 @@ fn with_constants(
             answer.debug(&fault)?;
             Ok(None)
         }
+    }
+}
+
+/// The constants of a datum once more, with what is known of them.
+pub fn constants(alloc: Global, datum: &Datum) -> Result<Constants, Stop>
+    ensures { IfOk result (λ c. LoadsConstants datum.now (Ok c)) }
+{
+    match Constants::load(alloc, datum) {
+        Ok(consts) => Ok(consts),
+        Err(_) => Err(Stop::NoQuestion),
     }
 }
 

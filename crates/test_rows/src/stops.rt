@@ -1,5 +1,8 @@
 //! Why a row has no answer.
 
+ghost use Rattle.std.specs.Prelude.{◌≡◌};
+ghost use Rattle.test_rows.specs.declared.stops.Stop.TheVariants.{NoMemory, NoQuestion};
+
 use std::alloc::{AllocError, AllocFailed};
 use std::num::ParseIntError;
 use thiserror::Error;

@@ -9,12 +9,13 @@ ghost use Rattle.lie_unip.specs.Collection.{AreEntries};
 ghost use Rattle.lie_weyl.specs.WeylElement.{IsElement};
 
 use crate::elements::element;
+use lie_const::Constants;
 use lie_datum::{Datum, RootId};
 use lie_field::{Fe, Field};
 use lie_unip::Unip;
 use lie_weyl::Weyl;
 use std::alloc::Global;
-use test_rows::{Answer, Roots, Stop, entry, numbered, pair};
+use test_rows::{Answer, Roots, Stop, constants, entry, numbered, pair};
 
 /// Answers a question about products; false where it is about something else.
 pub(crate) fn about_products(
@@ -25,88 +26,107 @@ pub(crate) fn about_products(
     lists: &[Vec<i128>],
     answer: &mut Answer,
 ) -> Result<bool, Stop> {
+    if !is_product(question) {
+        return Ok(false);
+    }
+    let datum = &roots.datum;
+    let consts = &constants(alloc, datum)?;
     let u = match (question, lists) {
         ("product", [a, b]) => {
-            let a = unipotent(alloc, field, roots, a)?;
-            let b = unipotent(alloc, field, roots, b)?;
-            product(alloc, field, roots, &a, &b)?
+            let a = unipotent(alloc, field, datum, consts, a)?;
+            let b = unipotent(alloc, field, datum, consts, b)?;
+            product(alloc, field, datum, consts, &a, &b)?
         }
         ("inverse", [a]) => {
-            let a = unipotent(alloc, field, roots, a)?;
-            inverse(alloc, field, roots, &a)?
+            let a = unipotent(alloc, field, datum, consts, a)?;
+            inverse(alloc, field, datum, consts, &a)?
         }
-        ("letters", letters) => collected(alloc, field, roots, letters)?,
+        ("letters", letters) => collected(alloc, field, datum, consts, letters)?,
         ("split", [a, w]) => {
-            let a = unipotent(alloc, field, roots, a)?;
-            let w = element(alloc, &roots.datum, w)?;
-            split(alloc, field, roots, &a, &w, answer)?;
+            let a = unipotent(alloc, field, datum, consts, a)?;
+            let w = element(alloc, datum, w)?;
+            split(alloc, field, datum, consts, &a, &w, answer)?;
             return Ok(true);
         }
         _ => return Ok(false),
     };
-    write_entries(&roots.datum, &u, answer)?;
+    write_entries(datum, &u, answer)?;
     Ok(true)
 }
 
+/// Whether a question is about products.
+fn is_product(question: &str) -> bool {
+    match question {
+        "product" | "inverse" | "letters" | "split" => true,
+        _ => false,
+    }
+}
+
 /// 1.
-fn one(alloc: Global, field: &Field, roots: &Roots) -> Result<Unip<Field>, Stop>
-    ensures { IfOk result (AreEntries (field_ring field.now) (length roots.now.datum.positive)) }
+fn one(alloc: Global, field: &Field, datum: &Datum) -> Result<Unip<Field>, Stop>
+    ensures { IfOk result (AreEntries (field_ring field.now) (length datum.now.positive)) }
 {
-    Ok(Unip::one(alloc, field, &roots.datum)?)
+    Ok(Unip::one(alloc, field, datum)?)
 }
 
 /// The product with one letter more.
 fn pushed(
     alloc: Global,
     field: &Field,
-    roots: &Roots,
+    datum: &Datum,
+    consts: &Constants,
     u: &Unip<Field>,
     r: RootId,
     a: Fe,
 ) -> Result<Unip<Field>, Stop>
-    requires entries { AreEntries (field_ring field.now) (length roots.now.datum.positive) u.now }
-    requires number { IsNumber roots.now.datum r }
+    requires loads { LoadsConstants datum.now (Ok consts.now) }
+    requires entries { AreEntries (field_ring field.now) (length datum.now.positive) u.now }
+    requires number { IsNumber datum.now r }
     requires positive { pos 0 <ℤ r }
     requires element { a < order field.now.given }
-    ensures { IfOk result (AreEntries (field_ring field.now) (length roots.now.datum.positive)) }
+    ensures { IfOk result (AreEntries (field_ring field.now) (length datum.now.positive)) }
 {
-    Ok(u.push(alloc, field, &roots.datum, &roots.consts, r, &a)?)
+    Ok(u.push(alloc, field, datum, consts, r, &a)?)
 }
 
 /// The product with one letter more, at the k-th positive root and with the n-th element.
 fn with_letter(
     alloc: Global,
     field: &Field,
-    roots: &Roots,
+    datum: &Datum,
+    consts: &Constants,
     u: &Unip<Field>,
     k: i128,
     n: i128,
 ) -> Result<Unip<Field>, Stop>
-    requires { AreEntries (field_ring field.now) (length roots.now.datum.positive) u.now }
-    ensures { IfOk result (AreEntries (field_ring field.now) (length roots.now.datum.positive)) }
+    requires loads { LoadsConstants datum.now (Ok consts.now) }
+    requires entries { AreEntries (field_ring field.now) (length datum.now.positive) u.now }
+    ensures { IfOk result (AreEntries (field_ring field.now) (length datum.now.positive)) }
 {
-    let r = numbered(&roots.datum, k)?;
+    let r = numbered(datum, k)?;
     if r.number() <= 0 {
         return Err(Stop::NoQuestion);
     }
-    pushed(alloc, field, roots, u, r, entry(field, n)?)
+    pushed(alloc, field, datum, consts, u, r, entry(field, n)?)
 }
 
 /// The element with these entries, one for each positive root in order.
 fn unipotent(
     alloc: Global,
     field: &Field,
-    roots: &Roots,
+    datum: &Datum,
+    consts: &Constants,
     list: &[i128],
 ) -> Result<Unip<Field>, Stop>
-    ensures { IfOk result (AreEntries (field_ring field.now) (length roots.now.datum.positive)) }
+    requires loads { LoadsConstants datum.now (Ok consts.now) }
+    ensures { IfOk result (AreEntries (field_ring field.now) (length datum.now.positive)) }
 {
-    if list.len() != roots.datum.m() {
+    if list.len() != datum.m() {
         return Err(Stop::NoQuestion);
     }
-    let mut u = one(alloc, field, roots)?;
+    let mut u = one(alloc, field, datum)?;
     for k in 0..list.len() {
-        u = with_letter(alloc, field, roots, &u, k as i128 + 1, list[k])?;
+        u = with_letter(alloc, field, datum, consts, &u, k as i128 + 1, list[k])?;
     }
     Ok(u)
 }
@@ -115,15 +135,17 @@ fn unipotent(
 fn collected(
     alloc: Global,
     field: &Field,
-    roots: &Roots,
+    datum: &Datum,
+    consts: &Constants,
     letters: &[Vec<i128>],
 ) -> Result<Unip<Field>, Stop>
-    ensures { IfOk result (AreEntries (field_ring field.now) (length roots.now.datum.positive)) }
+    requires loads { LoadsConstants datum.now (Ok consts.now) }
+    ensures { IfOk result (AreEntries (field_ring field.now) (length datum.now.positive)) }
 {
-    let mut u = one(alloc, field, roots)?;
+    let mut u = one(alloc, field, datum)?;
     for letter in letters {
         let (k, n) = pair(letter)?;
-        u = with_letter(alloc, field, roots, &u, k, n)?;
+        u = with_letter(alloc, field, datum, consts, &u, k, n)?;
     }
     Ok(u)
 }
@@ -131,45 +153,51 @@ fn collected(
 fn product(
     alloc: Global,
     field: &Field,
-    roots: &Roots,
+    datum: &Datum,
+    consts: &Constants,
     a: &Unip<Field>,
     b: &Unip<Field>,
 ) -> Result<Unip<Field>, Stop>
-    requires a { AreEntries (field_ring field.now) (length roots.now.datum.positive) a.now }
-    requires b { AreEntries (field_ring field.now) (length roots.now.datum.positive) b.now }
-    ensures { IfOk result (AreEntries (field_ring field.now) (length roots.now.datum.positive)) }
+    requires loads { LoadsConstants datum.now (Ok consts.now) }
+    requires a { AreEntries (field_ring field.now) (length datum.now.positive) a.now }
+    requires b { AreEntries (field_ring field.now) (length datum.now.positive) b.now }
+    ensures { IfOk result (AreEntries (field_ring field.now) (length datum.now.positive)) }
 {
-    Ok(a.mul(alloc, field, &roots.datum, &roots.consts, b)?)
+    Ok(a.mul(alloc, field, datum, consts, b)?)
 }
 
 fn inverse(
     alloc: Global,
     field: &Field,
-    roots: &Roots,
+    datum: &Datum,
+    consts: &Constants,
     a: &Unip<Field>,
 ) -> Result<Unip<Field>, Stop>
-    requires { AreEntries (field_ring field.now) (length roots.now.datum.positive) a.now }
-    ensures { IfOk result (AreEntries (field_ring field.now) (length roots.now.datum.positive)) }
+    requires loads { LoadsConstants datum.now (Ok consts.now) }
+    requires entries { AreEntries (field_ring field.now) (length datum.now.positive) a.now }
+    ensures { IfOk result (AreEntries (field_ring field.now) (length datum.now.positive)) }
 {
-    Ok(a.inv(alloc, field, &roots.datum, &roots.consts)?)
+    Ok(a.inv(alloc, field, datum, consts)?)
 }
 
 /// Writes the part of the roots that w keeps positive, and the other part.
 fn split(
     alloc: Global,
     field: &Field,
-    roots: &Roots,
+    datum: &Datum,
+    consts: &Constants,
     a: &Unip<Field>,
     w: &Weyl,
     answer: &mut Answer,
 ) -> Result<(), Stop>
-    requires a { AreEntries (field_ring field.now) (length roots.now.datum.positive) a.now }
-    requires w { IsElement roots.now.datum w.now }
+    requires loads { LoadsConstants datum.now (Ok consts.now) }
+    requires a { AreEntries (field_ring field.now) (length datum.now.positive) a.now }
+    requires w { IsElement datum.now w.now }
 {
-    let (first, second) = a.split(alloc, field, &roots.datum, &roots.consts, w)?;
-    write_entries(&roots.datum, &first, answer)?;
+    let (first, second) = a.split(alloc, field, datum, consts, w)?;
+    write_entries(datum, &first, answer)?;
     answer.word("|")?;
-    write_entries(&roots.datum, &second, answer)
+    write_entries(datum, &second, answer)
 }
 
 /// Writes the numbers of the entries.

@@ -8,7 +8,7 @@ use Rattle.lie_orbit.proofs.OneOrbit.{listed_size}
 use Rattle.lie_weight.specs.OrbitFaults.{AreLight}
 use Rattle.lie_weight.proofs.OrbitLemmas.{near_small, are_light, orbit_some, fault_loads}
 use Rattle.lie_weight.proofs.modules.Module.minuscule.Goals as goal
-use Rattle.lie_weight.proofs.modules.Module.minuscule.Goals.{In_ok-weights, After-len-count, After-complete}
+use Rattle.lie_weight.proofs.modules.Module.minuscule.Goals.{In_ok-weights, After-complete}
 
 pub returns-then-count-gt-LIMIT : goal.returns-then-count-gt-LIMIT
 returns-then-count-gt-LIMIT c =

@@ -5,8 +5,8 @@ use Rattle.lie_unip.specs.Splitting.{kept_at}
 use Rattle.lie_unip.specs.Placing.{terms_between}
 use Rattle.lie_unip.proofs.OrderedLemmas.{different_at}
 use Rattle.lie_unip.proofs.PlacingLemmas.{idle_more}
-use Rattle.lie_unip.proofs.collector.Collector.first_met.Goals as goal
-use Rattle.lie_unip.proofs.collector.Collector.first_met.Goals.{else-not-same-via-then-not-same+else-not-commute, else-not-same-via-else-not-same}
+use Rattle.lie_unip.proofs.collector.Collector.first_behind.Goals as goal
+use Rattle.lie_unip.proofs.collector.Collector.first_behind.Goals.{else-not-same-via-then-not-same+else-not-commute, else-not-same-via-else-not-same}
 
 pub commute-requires-clause-other : goal.commute-requires-clause-other
 commute-requires-clause-other g c =
