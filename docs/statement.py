@@ -26,36 +26,19 @@ def cell(text):
 
 
 def top_call(repository):
-    for source in repository.sources["lie_session"]:
-        for call in source.calls:
-            if call.name == "lie" and not call.owner:
-                return call, source
-    sys.exit("the top call `lie` was not found")
+    calls = [(call, source) for source in repository.sources["lie_session"] for call in source.calls if call.title() == "lie"]
+    return calls[0] if calls else sys.exit("the top call `lie` was not found")
 
 
 def traits_of(repository, call):
-    """The traits of this repository that bound the type parameters of a call."""
-    bounds = re.search(r"<([^>]*)>", call.text)
-    names = re.findall(r":\s*(\w+)", bounds[1]) if bounds else []
+    """The traits of this repository that bound the type parameters of a call, each with its methods."""
+    names = re.findall(r":\s*(\w+)", call.text.partition("<")[2].partition(">")[0])
+    sources = [source for each in repository.sources.values() for source in each]
     for name in names:
-        for crate in repository.below:
-            for source in repository.sources[crate]:
-                for it in source.types:
-                    if it.kind == "trait" and it.name == name:
-                        yield it, source
-
-
-def first_cited(repository):
-    """What the clauses of `lie` cite, and those of the traits of its source and sink."""
-    call, source = top_call(repository)
-    clauses = [(name, repository.cited(text, source.scope)) for kind, name, text in call.clauses]
-    found = [it for _, cited in clauses for it in cited]
-    for trait, where in traits_of(repository, call):
-        for method in where.calls:
-            if method.owner == trait.name:
-                for _, _, text in method.clauses:
-                    found += repository.cited(text, where.scope)
-    return clauses, found
+        for source in sources:
+            for it in source.types:
+                if it.kind == "trait" and it.name == name:
+                    yield it, source, [method for method in source.calls if method.owner == name]
 
 
 def in_reading_order(repository, files):
@@ -78,11 +61,10 @@ def in_reading_order(repository, files):
 
 def page(repository):
     call, source = top_call(repository)
-    clauses, first = first_cited(repository)
-    reached = repository.reach(first)
-    definitions = [it for it in reached if isinstance(it, Definition) and it.kind != "abstract"]
-    types = [it for it in reached if isinstance(it, Type)]
     traits = list(traits_of(repository, call))
+    reached = repository.reach(repository.cited_by([call, *(method for _, _, methods in traits for method in methods)]))
+    definitions = [it for it in reached if isinstance(it, Definition) and it.kind != "lemma"]
+    types = [it for it in reached if isinstance(it, Type)]
     files = {it.file for it in definitions}
     order = sorted(repository.below, key=lambda crate: LATE.index(crate) if crate in LATE else -1)
     bare = [it for it in definitions if not it.sentence] + [it for it in types if not it.sentence]
@@ -102,31 +84,30 @@ def page(repository):
         "| Clause of `lie` | Begins with |",
         "|---|---|",
     ]
-    for name, cited in clauses:
-        own = [it for it in cited if isinstance(it, (Definition, Type))]
-        names = ", ".join(f"[`{it.name}`](#{anchor(heading_of(it))})" for it in own)
+    for _, name, text in call.clauses:
+        cited = [it for it in repository.cited(text, source.scope) if isinstance(it, (Definition, Type))]
+        names = ", ".join(f"[`{it.name}`](#{anchor(heading_of(it))})" for it in cited)
         out.append(f"| `{name}` | {names} |")
     out += ["", "Files, in the order of this page:", ""]
     body = []
     for crate in order:
         mine = in_reading_order(repository, [file for file in repository.specs[crate] if file in files])
         own = [it for it in types if it.crate == crate]
-        told = [(trait, where) for trait, where in traits if trait.crate == crate]
+        told = [each for each in traits if each[0].crate == crate]
         if not mine and not own:
             continue
         body += ["", f"## {crate}", "", first_sentence(repository, crate)]
         out.append(f"- [{crate}](#{anchor(crate)}): " + ", ".join(f"[{file.name}](#{anchor(f'{crate}: {file.name}')})" for file in mine))
-        for trait, where in told:
+        for trait, where, methods in told:
             body += ["", f"### {crate}: {trait.name}", "", f"[{base(trait.path)}](../{trait.path}). {trait.sentence}", "", "| Member, clause | It says |", "|---|---|"]
             for it in re.finditer(r"((?:[ ]*///[^\n]*\n)+)[ ]*ghost (\w+):", where.text[where.text.index(f"trait {trait.name}") :]):
                 said = " ".join(line.strip()[3:].strip() for line in it[1].strip().splitlines())
                 body.append(f"| `{it[2]}` | {cell(said)} |")
-            for method in where.calls:
-                if method.owner == trait.name:
-                    for kind, name, text in method.clauses:
-                        names = ", ".join(f"`{it.name}`" for it in repository.cited(text, where.scope) if isinstance(it, Definition))
-                        if names:
-                            body.append(f"| `{method.name}`, {kind} `{name}` | {names} |")
+            for method in methods:
+                for kind, name, text in method.clauses:
+                    names = ", ".join(f"`{it.name}`" for it in repository.cited(text, where.scope) if isinstance(it, Definition))
+                    if names:
+                        body.append(f"| `{method.name}`, {kind} `{name}` | {names} |")
         if own:
             body += ["", f"### {crate}: types of the code", "", "| Type | It is |", "|---|---|"]
             for it in sorted(own, key=lambda it: (it.path, it.line)):
@@ -169,31 +150,17 @@ def first_sentence(repository, crate):
     return ""
 
 
-def public_reach(repository):
-    """What the public clauses of all crates reach."""
+def apart(repository):
+    """Each file of specs/, whether a public clause of any crate reaches it, and whether its head says that none does: `no public clause cites it`."""
     first = []
     for crate in repository.below:
-        public = {id(it) for it in repository.public_calls(crate)}
-        for source in repository.sources[crate]:
-            is_program = source.path.endswith("main.rt")
-            for call in source.calls:
-                if id(call) in public or is_program:
-                    for _, _, text in call.clauses:
-                        first += repository.cited(text, source.scope)
-            for owner, trait, name, text, local in source.ghosts:
-                names = [re.match(r"\w+", it)[0] for it in (owner, trait) if it and re.match(r"\w+", it)]
-                if any(it in repository.exported[crate] for it in names) and (trait != "Model" or name == "Value"):
-                    first += repository.cited(text, {**source.scope, **local})
-    return repository.reach(first)
-
-
-def apart(repository):
-    """Each file of specs/, whether a public clause reaches it, and whether its head says that none does: `no public clause cites it`."""
-    reached = {id(it.file) for it in public_reach(repository) if isinstance(it, Definition) and it.kind != "abstract"}
+        first += repository.cited_by(repository.public_calls(crate))
+        for ghost in repository.public_ghosts(crate):
+            first += repository.cited(ghost.text, ghost.scope)
+    reached = {it.file for it in repository.reach(first) if isinstance(it, Definition) and it.kind != "lemma"}
     for crate in repository.below:
         for file in repository.specs[crate]:
-            says = any("no public clause cites it" in line for line in file.head)
-            yield file, id(file) in reached, says
+            yield file, file in reached, any("no public clause cites it" in line for line in file.head)
 
 
 def main(words):
