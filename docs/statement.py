@@ -17,12 +17,41 @@ TARGET = os.path.join(sources.TOP, "docs", "STATEMENT.md")
 LATE = ["lie_kit", "lie_session"]
 
 
+INTRODUCTION = """\
+# What a reader must believe
+
+`lie` (`crates/lie_session/src/program.rt`) is the call that the program makes, and its clauses are what is proved of the program. This page
+has the {definitions} definitions of {files} files, and the {types} types of the code, on which these clauses rest, in reading order: from numbers and fields to
+replies. Who has read them knows what the clauses say. Bodies and lemmas need no reading: the prover checks them. What the clauses promise in
+words stands in [PROVED.md](PROVED.md).
+
+The page is made by `docs/statement.py` from the sources; `python3 docs/statement.py --check` compares. Each sentence is the comment above its
+definition.
+
+## The clauses
+"""
+LIBRARY = """\
+
+## Words of the kit's library
+
+The definitions use these words of the kit, which mean what they mean there.
+"""
+
+
 def anchor(heading):
     return re.sub(r"[^\w\- ]", "", heading.lower()).replace(" ", "-")
 
 
-def cell(text):
-    return text.replace("|", "\\|")
+def heading(it):
+    return f"{it.file.crate}: {it.file.name}" if isinstance(it, Definition) else f"{it.crate}: types of the code"
+
+
+def link(path):
+    return f"[{path.partition('crates/')[2].partition('/')[2]}](../{path})"
+
+
+def table(head, rows):
+    return ["", f"| {head} | It says |", "|---|---|", *(f"| {name} | {said.replace('|', chr(92) + '|')} |" for name, said in rows)]
 
 
 def top_call(repository):
@@ -31,11 +60,11 @@ def top_call(repository):
 
 
 def traits_of(repository, call):
-    """The traits of this repository that bound the type parameters of a call, each with its methods."""
+    """The traits of this repository that bound the type parameters of a call, each with its file and its methods."""
     names = re.findall(r":\s*(\w+)", call.text.partition("<")[2].partition(">")[0])
-    sources = [source for each in repository.sources.values() for source in each]
+    files = [source for each in repository.sources.values() for source in each]
     for name in names:
-        for source in sources:
+        for source in files:
             for it in source.types:
                 if it.kind == "trait" and it.name == name:
                     yield it, source, [method for method in source.calls if method.owner == name]
@@ -59,95 +88,68 @@ def in_reading_order(repository, files):
     return order
 
 
+def first_sentence(repository, crate):
+    top = next(it for it in repository.sources[crate] if it.path.endswith(("src/lib.rt", "src/main.rt")))
+    lines = top.text.splitlines()
+    return " ".join(line[3:].strip() for line in lines[: lines.index("//!")])
+
+
+def of_trait(repository, trait, source, methods):
+    """The ghost members of a trait with the comments above them, and what the clauses of its methods cite."""
+    text = source.text[source.text.index(f"trait {trait.name}") :]
+    rows = []
+    for comment, name in re.findall(r"((?: *///[^\n]*\n)+) *ghost (\w+):", text):
+        rows.append((f"`{name}`", " ".join(line.strip().removeprefix("///").strip() for line in comment.strip().splitlines())))
+    for method in methods:
+        for kind, name, text in method.clauses:
+            names = ", ".join(f"`{it.name}`" for it in repository.cited(text, source.scope) if isinstance(it, Definition))
+            if names:
+                rows.append((f"`{method.name}`, {kind} `{name}`", names))
+    return ["", f"### {trait.crate}: {trait.name}", "", f"{link(trait.path)}. {trait.sentence}", *table("Member, clause", rows)]
+
+
+def of_types(crate, types):
+    rows = [(f"`{it.name}` in {link(it.path)}", it.sentence) for it in sorted(types, key=lambda it: (it.path, it.line))]
+    return ["", f"### {crate}: types of the code", *table("Type", rows)]
+
+
+def of_file(file, definitions):
+    rows = [(f"`{it.name}`", it.sentence) for it in file.definitions.values() if it in definitions]
+    return ["", f"### {file.crate}: {file.name}", "", f"{link(file.path)}. {file.sentence()}", *table("Definition", rows)]
+
+
+def of_library(repository, definitions):
+    words = {}
+    for found in (it for definition in definitions for it in repository.cites(definition)):
+        if isinstance(found, tuple) and ".proofs." not in found[0]:
+            words.setdefault(found[0].removeprefix("Rattle."), set()).add(found[1])
+    return [LIBRARY, *(f"- `{module}`: " + " ".join(f"`{name}`" for name in sorted(words[module])) for module in sorted(words))]
+
+
 def page(repository):
+    """The page, the definitions on it, and what has no sentence above it."""
     call, source = top_call(repository)
     traits = list(traits_of(repository, call))
     reached = repository.reach(repository.cited_by([call, *(method for _, _, methods in traits for method in methods)]))
-    definitions = [it for it in reached if isinstance(it, Definition) and it.kind != "lemma"]
+    definitions = {it: None for it in reached if isinstance(it, Definition) and it.kind != "lemma"}
     types = [it for it in reached if isinstance(it, Type)]
     files = {it.file for it in definitions}
-    order = sorted(repository.below, key=lambda crate: LATE.index(crate) if crate in LATE else -1)
-    bare = [it for it in definitions if not it.sentence] + [it for it in types if not it.sentence]
-
-    out = ["# What a reader must believe", ""]
-    out += [
-        "`lie` (`crates/lie_session/src/program.rt`) is the call that the program makes, and its clauses are what is proved of the program. This page",
-        f"has the {len(definitions)} definitions of {len(files)} files, and the {len(types)} types of the code, on which these clauses rest, in reading order: from numbers and fields to",
-        "replies. Who has read them knows what the clauses say. Bodies and lemmas need no reading: the prover checks them. What the clauses promise in",
-        "words stands in [PROVED.md](PROVED.md).",
-        "",
-        "The page is made by `docs/statement.py` from the sources; `python3 docs/statement.py --check` compares. Each sentence is the comment above its",
-        "definition.",
-        "",
-        "## The clauses",
-        "",
-        "| Clause of `lie` | Begins with |",
-        "|---|---|",
-    ]
+    clauses, contents, body = [], [], []
     for _, name, text in call.clauses:
         cited = [it for it in repository.cited(text, source.scope) if isinstance(it, (Definition, Type))]
-        names = ", ".join(f"[`{it.name}`](#{anchor(heading_of(it))})" for it in cited)
-        out.append(f"| `{name}` | {names} |")
-    out += ["", "Files, in the order of this page:", ""]
-    body = []
-    for crate in order:
+        clauses.append(f"| `{name}` | {', '.join(f'[`{it.name}`](#{anchor(heading(it))})' for it in cited)} |")
+    for crate in sorted(repository.below, key=lambda crate: LATE.index(crate) if crate in LATE else -1):
         mine = in_reading_order(repository, [file for file in repository.specs[crate] if file in files])
         own = [it for it in types if it.crate == crate]
-        told = [each for each in traits if each[0].crate == crate]
-        if not mine and not own:
-            continue
-        body += ["", f"## {crate}", "", first_sentence(repository, crate)]
-        out.append(f"- [{crate}](#{anchor(crate)}): " + ", ".join(f"[{file.name}](#{anchor(f'{crate}: {file.name}')})" for file in mine))
-        for trait, where, methods in told:
-            body += ["", f"### {crate}: {trait.name}", "", f"[{base(trait.path)}](../{trait.path}). {trait.sentence}", "", "| Member, clause | It says |", "|---|---|"]
-            for it in re.finditer(r"((?:[ ]*///[^\n]*\n)+)[ ]*ghost (\w+):", where.text[where.text.index(f"trait {trait.name}") :]):
-                said = " ".join(line.strip()[3:].strip() for line in it[1].strip().splitlines())
-                body.append(f"| `{it[2]}` | {cell(said)} |")
-            for method in methods:
-                for kind, name, text in method.clauses:
-                    names = ", ".join(f"`{it.name}`" for it in repository.cited(text, where.scope) if isinstance(it, Definition))
-                    if names:
-                        body.append(f"| `{method.name}`, {kind} `{name}` | {names} |")
-        if own:
-            body += ["", f"### {crate}: types of the code", "", "| Type | It is |", "|---|---|"]
-            for it in sorted(own, key=lambda it: (it.path, it.line)):
-                body.append(f"| `{it.name}` in [{base(it.path)}](../{it.path}) | {cell(it.sentence)} |")
-        for file in mine:
-            body += ["", f"### {crate}: {file.name}", "", f"[{base(file.path)}](../{file.path}). {file.sentence()}", "", "| Definition | It says |", "|---|---|"]
-            for it in file.definitions.values():
-                if it in definitions:
-                    body.append(f"| `{it.name}` | {cell(it.sentence)} |")
-    out += body
-    library = {}
-    for it in definitions:
-        for found in repository.cites(it):
-            if isinstance(found, tuple):
-                library.setdefault(found[0].removeprefix("Rattle."), set()).add(found[1])
-    out += ["", "## Words of the kit's library", "", "The definitions use these words of the kit, which mean what they mean there.", ""]
-    for module in sorted(library):
-        if ".proofs." not in module:
-            out.append(f"- `{module}`: " + " ".join(f"`{name}`" for name in sorted(library[module])))
-    return "\n".join(out) + "\n", definitions, bare
-
-
-def heading_of(it):
-    return f"{it.file.crate}: {it.file.name}" if isinstance(it, Definition) else f"{it.crate}: types of the code"
-
-
-def base(path):
-    return path.partition("crates/")[2].partition("/")[2]
-
-
-def first_sentence(repository, crate):
-    for source in repository.sources[crate]:
-        if source.path.endswith(("src/lib.rt", "src/main.rt")):
-            lines = []
-            for line in source.text.splitlines():
-                if not line.startswith("//!") or line == "//!":
-                    break
-                lines.append(line[3:].strip())
-            return " ".join(lines)
-    return ""
+        if mine or own:
+            contents.append(f"- [{crate}](#{anchor(crate)}): " + ", ".join(f"[{file.name}](#{anchor(f'{crate}: {file.name}')})" for file in mine))
+            body += ["", f"## {crate}", "", first_sentence(repository, crate)]
+            body += [line for each in traits if each[0].crate == crate for line in of_trait(repository, *each)]
+            body += of_types(crate, own) if own else []
+            body += [line for file in mine for line in of_file(file, definitions)]
+    text = INTRODUCTION.format(definitions=len(definitions), files=len(files), types=len(types))
+    head = [text, "| Clause of `lie` | Begins with |", "|---|---|", *clauses, "", "Files, in the order of this page:", "", *contents]
+    return "\n".join([*head, *body, *of_library(repository, definitions)]) + "\n", definitions, [it for it in (*definitions, *types) if not it.sentence]
 
 
 def apart(repository):
