@@ -1,5 +1,5 @@
 -- What a script has brought where a group is loaded, and what the replies to `matrix` are.
--- Source: Steinberg, Lectures on Chevalley groups (lattices with divided powers); Carter, Simple Groups of Lie Type, chapters 4 and 6.
+-- Source: Steinberg, Lectures on Chevalley Groups, 2 (lattices with divided powers); Carter, Simple Groups of Lie Type, 4.2 (structure constants) and chapter 6 (n_i).
 -- Own: the statements.
 --
 --   N_rs                     some table of constants loads      LoadsConstants
