@@ -4,24 +4,20 @@ ghost use Rattle.std.specs.Prelude.{◌<◌, IfOk};
 ghost use Rattle.std.specs.List.{AllByRecursion};
 ghost use Rattle.lie_field.specs.Quotient.{order};
 
-use crate::answers::Answer;
+use crate::answers::{Answer, read_lists};
 use crate::stops::Stop;
 use lie_field::{Fe, Field};
 use std::alloc::Global;
 
 /// The field of a row: its characteristic, the coefficients below the leading term, and a generator.
-pub fn load_field(
-    alloc: Global,
-    lists: &[Vec<i128>],
-    answer: &mut Answer,
-) -> Result<Option<Field>, Stop> {
+pub fn load_field(alloc: Global, lists: &[Vec<i128>], answer: &mut Answer) -> Result<Field, Stop> {
     let [p, coefficients, g] = lists else {
         return Err(Stop::NoQuestion);
     };
     let coefficients = small(alloc, coefficients)?;
     let field = field_of(alloc, only(p)?, &coefficients, only(g)?)?;
     answer.number(i128::from(field.q()))?;
-    Ok(Some(field))
+    Ok(field)
 }
 
 /// The number of a list of one.
@@ -48,6 +44,12 @@ fn field_of(alloc: Global, p: u32, coefficients: &[u32], g: u32) -> Result<Field
         return Err(Stop::NoQuestion);
     };
     Field::load(alloc, p, k, coefficients, g).map_err(|_| Stop::NoQuestion)
+}
+
+/// The field of a row.
+pub fn field_of_row(alloc: Global, text: &str) -> Result<Field, Stop> {
+    let lists = read_lists(alloc, text, "|")?;
+    load_field(alloc, &lists, &mut Answer::new(alloc)?)
 }
 
 /// The element of the field with a number.

@@ -21,7 +21,7 @@ mod stops;
 
 pub use answers::{Answer, index, padded, pair, read_lists, row, single, start};
 pub use classical::A_2;
-pub use fields::{elements, entry, load_field};
-pub use loading::{Roots, constants, load_datum, numbered, simple_index};
+pub use fields::{elements, entry, field_of_row, load_field};
+pub use loading::{Roots, constants, load_datum, numbered, roots_of_row, simple_index};
 pub use named_datum::NamedDatum;
 pub use stops::Stop;

@@ -113,6 +113,14 @@ pub fn load_datum(alloc: Global, text: &str, answer: &mut Answer) -> Result<Opti
     Ok(loaded(alloc, d, &roots, &coroots, answer)?)
 }
 
+/// The datum of a row that loads.
+pub fn roots_of_row(alloc: Global, text: &str) -> Result<Roots, Stop> {
+    match load_datum(alloc, text, &mut Answer::new(alloc)?)? {
+        Some(roots) => Ok(roots),
+        None => Err(Stop::NoQuestion),
+    }
+}
+
 /// The root of a number.
 pub fn numbered(datum: &Datum, k: i128) -> Result<RootId, Stop>
     ensures number { IfOk result (IsNumber datum.now) }
