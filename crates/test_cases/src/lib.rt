@@ -1,11 +1,13 @@
-//! Tests of calls that no table can show: each law that is a public function is called once, and a word is reversed
-//! and joined with another.
+//! Tests of calls that no table can show: each law that is a public function is called once, a word is reversed and
+//! joined with another, and named data have frames.
 //!
 //! The programs `test_tables` and `test_modules` compare values with those of other programs; here stand the calls
 //! that answer none, each in a function with no clause or a narrow one. No other crate stands on this one, and no
 //! theorem.
 #![tactic(auto)]
 
+#[cfg(test)]
+mod frames;
 #[cfg(test)]
 mod laws;
 #[cfg(test)]
