@@ -19,3 +19,4 @@ mod WorkedExamples
 pub mod FrontLemmas
 pub mod PositiveLetterLemmas
 pub mod RowLemmas
+pub mod FormLemmas

@@ -1,6 +1,7 @@
 //! One element for each positive root, in order.
 
 ghost use Rattle.std.specs.Prelude.{◌≡◌, ℕ, ℤ, pos, ◌-◌, ◌≤◌, ◌<ℤ◌, ◌++◌, ◌∷◌, [], Ok, List, length, replicate, slice_index_or, nat_abs, nat_lt, IfOk, IsTrue};
+ghost use Rattle.std.specs.List.{All};
 ghost use Rattle.lie_ring.specs.Rings.{RingOn, Fits};
 ghost use Rattle.lie_datum.specs.RootList.{IsNumber};
 ghost use Rattle.lie_const.specs.ConstantTables.{LoadsConstants};
@@ -62,6 +63,16 @@ impl<R: Ring> Unip<R> {
         ensures { result.now ≡ self.now }
     {
         self.entries.as_slice()
+    }
+
+    /// The same elements once more.
+    pub fn copied(&self, alloc: Global, ring: &R) -> Result<Unip<R>, AllocError>
+        requires roomy { IsTrue (R.ring ring.now).roomy }
+        requires fit { All (Fits (R.ring ring.now)) self.now }
+        ensures { IfOk result (λ u. u ≡ self.now) }
+    {
+        let entries = copied(ring, alloc, &self.entries)?;
+        Ok(Unip { entries })
     }
 
     /// The full word with `x_r(a)` appended, collected.
