@@ -84,6 +84,7 @@ pub(crate) fn past_word(frame: &Frame, word: &[u8], x: RootLetter) -> RootLetter
     ensures image { root_of frame.now.datum result.r ≡ moved frame.now.datum.base word.now (root_of frame.now.datum x.r) }
     ensures joined { JoinedInGroup frame.now (map N word.now ++ X x.r x.a ∷ []) (X result.r result.a ∷ map N word.now) }
 {
+    frame.lawful();
     let mut moved = x;
     for k in 0..word.len() {
         let i = word[word.len() - 1 - k];
@@ -100,6 +101,7 @@ pub(crate) fn past_torus(frame: &Frame, t: &Torus, x: RootLetter) -> RootLetter
     requires below { x.a < order frame.now.field.given }
     ensures root { result.r ≡ x.r }
     ensures below { result.a < order frame.now.field.given }
+    ensures zero { x.a ≡ 0 → result.a ≡ 0 }
     ensures joined { JoinedInGroup frame.now (H t.now ∷ X x.r x.a ∷ []) (X result.r result.a ∷ H t.now ∷ []) }
 {
     frame.lawful();
@@ -120,6 +122,7 @@ pub(crate) fn torus_past_word(frame: &Frame, word: &[u8], t: &Torus) -> Torus
     ensures long { dim (unsigned frame.now) ≡ length result }
     ensures joined { JoinedInGroup frame.now (map N word.now ++ H t.now ∷ []) (H result ∷ map N word.now) }
 {
+    frame.lawful();
     let mut moved = t.copied();
     for k in 0..word.len() {
         let i = word[word.len() - 1 - k];

@@ -1,6 +1,6 @@
 //! The product of a form with positive root letters and torus letters.
 
-ghost use Rattle.std.specs.Prelude.{◌≡◌, ◌<◌, ◌++◌, ◌∷◌, [], ℕ, List, length, map, pos, ◌<ℤ◌, IfOk};
+ghost use Rattle.std.specs.Prelude.{◌≡◌, ◌<◌, ◌++◌, ◌∷◌, [], ℕ, List, length, map, pos, ◌<ℤ◌, slice_index_or, IfOk};
 ghost use Rattle.lie_datum.specs.RootList.{IsNumber};
 ghost use Rattle.lie_field.specs.FieldRing.{field_ring};
 ghost use Rattle.lie_field.specs.Quotient.{order};
@@ -43,6 +43,7 @@ pub(crate) fn moved_letters(
     ensures positive { IfOk result (λ v. ArePositiveLetters (field_ring frame.now.field) frame.now.datum v.items) }
     ensures joined { IfOk result (λ v. JoinedInGroup frame.now (H h.now ∷ (map N word.now ++ root_letters (nonzero_letters y.now))) (root_letters (by_place v.items) ++ H h.now ∷ map N word.now)) }
 {
+    frame.lawful();
     let m = frame.datum.m();
     let entries = y.entries();
     let mut letters = Vec::new(alloc);
@@ -78,6 +79,7 @@ pub(crate) fn settled(
     ensures weyl { IfOk result (λ x. x.weyl ≡ w) }
     ensures joined { IfOk result (λ x. (z : List Letter) → StandsFor frame.now (record { first = u.now; torus = h; weyl = w; second = y.now }) z → IsFormOf frame.now x z) }
 {
+    frame.lawful();
     let Frame {
         field,
         datum,
@@ -103,6 +105,7 @@ pub(crate) fn times_roots(
     ensures weyl { IfOk result (λ x. x.weyl ≡ f.now.weyl) }
     ensures times { IfOk result (IsTimes frame.now f.now (root_letters (nonzero_letters y.now))) }
 {
+    frame.lawful();
     let y = f
         .v()
         .mul(alloc, &frame.field, &frame.datum, &frame.constants, y)?;
@@ -123,6 +126,7 @@ pub(crate) fn times_positive(
     ensures weyl { IfOk result (λ y. y.weyl ≡ f.now.weyl) }
     ensures times { IfOk result (IsTimes frame.now f.now (X x.r x.a ∷ [])) }
 {
+    frame.lawful();
     let Frame {
         field,
         datum,
@@ -146,15 +150,17 @@ pub(crate) fn times_torus(
     ensures weyl { IfOk result (λ y. y.weyl ≡ f.now.weyl) }
     ensures times { IfOk result (IsTimes frame.now f.now (H t.now ∷ [])) }
 {
+    frame.lawful();
     let Frame { field, datum, .. } = frame;
     let word = f.w().least_word(alloc, datum)?;
     let h = f.h().mul(field, &torus_past_word(frame, &word, t));
-    let v = scaled(alloc, frame, &t.inv(field), f.v())?;
+    let v = scaled(alloc, frame, t, f.v())?;
     let u = f.u().copied(alloc, field)?;
     Ok(Form::new(frame, u, h, *f.w(), v))
 }
 
-/// The list that stands in front of a torus letter where v stood behind it.
+/// The list that stands behind a torus letter where v stood in front of it: each element times the
+/// inverse of its root at the torus vector.
 fn scaled(
     alloc: Global,
     frame: &Frame,
@@ -165,14 +171,20 @@ fn scaled(
     requires long { dim (unsigned frame.now) ≡ length t.now }
     requires entries { AreEntries (field_ring frame.now.field) (length frame.now.datum.positive) v.now }
     ensures entries { IfOk result (AreEntries (field_ring frame.now.field) (length frame.now.datum.positive)) }
-    ensures joined { IfOk result (λ y. JoinedInGroup frame.now (H t.now ∷ root_letters (nonzero_letters v.now)) (root_letters (nonzero_letters y) ++ H t.now ∷ [])) }
+    ensures zeros { IfOk result (λ y. (k : ℕ) → slice_index_or v.now k 0 ≡ 0 → slice_index_or y k 0 ≡ 0) }
+    ensures joined { IfOk result (λ y. JoinedInGroup frame.now (root_letters (nonzero_letters v.now) ++ H t.now ∷ []) (H t.now ∷ root_letters (nonzero_letters y))) }
 {
-    let Frame {
-        field,
-        datum,
-        constants,
-        ..
-    } = frame;
-    let letters = moved_letters(alloc, frame, t, &[], v)?;
-    Unip::one(alloc, field, datum)?.append(alloc, field, datum, constants, &letters)
+    frame.lawful();
+    let m = frame.datum.m();
+    let back = t.inv(&frame.field);
+    let entries = v.entries();
+    let mut scaled = Vec::new(alloc);
+    for k in 0..entries.len() {
+        let x = RootLetter {
+            r: RootId::at(k, m),
+            a: entries[k],
+        };
+        scaled.push(past_torus(frame, &back, x).a)?;
+    }
+    Ok(Unip::of(scaled))
 }
