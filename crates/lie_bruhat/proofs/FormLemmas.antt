@@ -31,7 +31,7 @@ use Rattle.lie_bruhat.proofs.ShapeLemmas.{RootLetters}
 use Rattle.lie_bruhat.proofs.FrameSplits.{HaveNumbers, letters_of}
 
 -- letters that are 0 are left out
-dropped_zeros : (F : FiniteField) (w : List (RingLetter ℕ)) → Dropped (field_ring F) w (filter is_nonzero w)
+pub dropped_zeros : (F : FiniteField) (w : List (RingLetter ℕ)) → Dropped (field_ring F) w (filter is_nonzero w)
 dropped_zeros F [] = nothing
 dropped_zeros F (x ∷ w) = by (nat_eq x.1 0) refl (dropped_zeros F w)
   where
