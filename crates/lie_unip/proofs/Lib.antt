@@ -20,3 +20,4 @@ pub mod FrontLemmas
 pub mod PositiveLetterLemmas
 pub mod RowLemmas
 pub mod FormLemmas
+mod FormExamples

@@ -7,7 +7,7 @@
 --   w                        x.weyl       the images of the simple roots
 --   (b_1, .., b_m)           x.second     0 wherever w r is positive
 --   x_1(a_1) .. x_m(a_m) h n_w x_1(b_1) .. x_m(b_m)     form_word x p     p is a word of w; entries that are 0 give no letter
-use Rattle.std.specs.Prelude.{◌≡◌, ℕ, ℤ, Bool, true, false, not, nat_eq, List, [], ◌∷◌, ◌++◌, map, length, filter, slice_index_or}
+use Rattle.std.specs.Prelude.{◌≡◌, ℕ, ℤ, Bool, true, false, not, nat_eq, List, ◌∷◌, ◌++◌, map, length, filter, slice_index_or}
 use Rattle.lie_field.specs.FieldRing.{field_ring}
 use Rattle.lie_datum.specs.RootList.{RootDatum}
 use Rattle.lie_weyl.specs.WeylElement.{Spells, IsElement, word_length}

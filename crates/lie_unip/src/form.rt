@@ -59,6 +59,7 @@ impl Form {
         requires { IsForm frame.now (record { first = u; torus = h; weyl = w; second = v }) }
         ensures { result ≡ record { first = u; torus = h; weyl = w; second = v } }
     {
+        // Only the condition reads the frame.
         let _ = frame;
         Form { u, h, w, v }
     }
