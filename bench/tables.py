@@ -604,6 +604,52 @@ def matrices(t):
         t.row("matrix of h", [torus], worked[2])
 
 
+def matrices_of_integers(t):
+    t.heading(
+        "Matrices of integers, worked out by hand. A matrix is its shape and its entries, row after row.",
+        "matrix product, matrix sum, direct sum, Kronecker product, transposed matrix, identity matrix: = the shape, and",
+        "    the entries that are not 0, by columns: the row, the column and the entry; or wide",
+        "equal matrices: M | N = whether they are equal; symmetric identity: n = whether it is its own transpose",
+        "image of vector: M | v = M v",
+        "next entry: M | i j = the row of the first entry of column j from row i on that is not 0, and the entry, or none",
+    )
+
+    def given(m):
+        return [[len(m), len(m[0])], [x for row in m for x in row]]
+
+    def kept(m):
+        places = ((i, j) for j in range(len(m[0])) for i in range(len(m)))
+        return [[len(m), len(m[0])]] + [[i + 1, j + 1, m[i][j]] for i, j in places if m[i][j]]
+
+    a, b = [[1, 2], [0, 3]], [[2, 0], [-1, 1]]
+    upper, lower, one = [[1, 1], [0, 1]], [[1, 0], [1, 1]], [[1]]
+    c = [[2, 1], [1, 1]]
+    t.row("matrix product", given(a) + given(b), kept([[0, 2], [-3, 3]]))
+    t.row("matrix product", given(b) + given(a), kept([[2, 4], [-1, 1]]))
+    t.row("matrix product", given(upper) + given(lower), kept(c))
+    t.row("matrix product", given([[1 << 100]]) * 2, "wide")
+    t.row("equal matrices", given(upper) + given(lower), "no")
+    t.row("equal matrices", given([[1 << 100]]) * 2, "yes")
+    t.row("matrix sum", given(a) + given(b), kept([[3, 2], [-1, 4]]))
+    t.row("matrix sum", given(c) * 2, kept([[4, 2], [2, 2]]))
+    t.row("transposed matrix", given(a), kept([[1, 0], [2, 3]]))
+    t.row("transposed matrix", given(c), kept(c))
+    product = [[2, 0, 4, 0], [-1, 1, -2, 2], [0, 0, 6, 0], [0, 0, -3, 3]]
+    t.row("Kronecker product", given(a) + given(b), kept(product))
+    t.row("Kronecker product", given(c) + given(one), kept(c))
+    blocks = [[1, 2, 0, 0], [0, 3, 0, 0], [0, 0, 2, 0], [0, 0, -1, 1]]
+    t.row("direct sum", given(a) + given(b), kept(blocks))
+    t.row("direct sum", given(c) + given(one), kept([[2, 1, 0], [1, 1, 0], [0, 0, 1]]))
+    t.row("image of vector", given(a) + [[5, -1]], [[3, -3]])
+    t.row("image of vector", given(c) + [[1, 1]], [[3, 2]])
+    for start, answer in (((1, 1), [[2, 5]]), ((1, 2), [[1, 4]]), ((2, 2), [[2, 6]]), ((3, 1), "none")):
+        t.row("next entry", given([[0, 4], [5, 6]]) + [start], answer)
+    t.row("identity matrix", [[2]], kept([[1, 0], [0, 1]]))
+    for n in (0, 1, 1024):
+        t.row("symmetric identity", [[n]], "yes")
+        t.row("matrix product", [[n, 0], [], [0, n], []], [[n, n]])
+
+
 def words_of_lie():
     """Random words of 5 to 120 letters and their least words, by LiE."""
     random.seed(20240501)
@@ -636,6 +682,7 @@ def main(gap_path, lie_path, crates):
     adjoint_modules(t)
     orbits(t)
     matrices(t)
+    matrices_of_integers(t)
     t.write(crates + "/test_modules")
 
 

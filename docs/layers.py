@@ -17,9 +17,9 @@ def main():
     text = sources.read(os.path.join("docs", "ARCHITECTURE.md"))
     faults = []
     for line in re.search(r"```text\n(.*?)```", text, re.S)[1].splitlines():
-        for above, rest in re.findall(r"(lie_\w+) > (lie_\w+(?:, lie_\w+)*)", line):
+        for above, rest in re.findall(r"(\w+) > (\w+(?:, \w+)*)", line):
             faults += [f"{above} doesn't stand on {it}" for it in rest.split(", ") if it not in below.get(above, ())]
-        for above, rest in re.findall(r"> (lie_\w+) > (lie_\w+(?:, lie_\w+)*)", line):
+        for above, rest in re.findall(r"> (\w+) > (\w+(?:, \w+)*)", line):
             faults += [f"{above} doesn't stand on {it}" for it in rest.split(", ") if it not in below.get(above, ())]
 
     @functools.cache

@@ -29,90 +29,76 @@ def rows():
             print(f"docs/PROVED.md:{number}: this row can't be read")
 
 
-def clauses_of(repository, crate, call):
-    """The clauses of a call; those of the trait's method where an impl has none of its own."""
-    mine = [it for it in call.clauses if it[0] == "ensures"]
-    if mine or not call.trait:
-        return mine
-    trait = re.match(r"\w+", call.trait)[0]
-    for other in repository.below:
-        for source in repository.sources[other]:
-            for it in source.calls:
-                if it.owner == trait and it.name == call.name:
-                    return [it for it in it.clauses if it[0] == "ensures"]
-    return []
+def clauses_of(repository, call):
+    """What a call ensures; where an impl has no clauses of its own, what the method of its trait does."""
+    if call.ensured() or not call.trait:
+        return call.ensured()
+    trait = sources.first_word(call.trait)
+    methods = [it for each in repository.sources.values() for source in each for it in source.calls if it.title() == f"{trait}::{call.name}"]
+    return [clause for it in methods for clause in it.ensured()]
 
 
-def words_of(repository, crate, title, path):
-    """The calls or types of this name in the file, and the words that a row may give as their clauses."""
-    found, words, unnamed = False, set(), False
-    public = {id(it) for it in repository.public_calls(crate)} if crate in repository.below else set()
-    for source in repository.sources.get(crate, []):
-        for call in source.calls:
-            # (a program has no public calls: those of its main file are told)
-            is_told = id(call) in public or path.endswith("main.rt")
-            if call.title() == title and source.path == path and is_told:
-                found = True
-                clauses = clauses_of(repository, crate, call)
-                unnamed = unnamed or (len(clauses) == 1 and not clauses[0][1])
-                for _, name, text in clauses:
-                    words |= {name, *re.findall(r"[^\s(){}\[\],;|]+", text)}
-        for it in source.types:
-            if it.name == title and source.path == path:
-                found = True
-        for owner, trait, name, text, _ in source.ghosts:
-            if owner and re.match(r"\w+", owner)[0] == title.partition("::")[0]:
-                words |= {name, *re.findall(r"[^\s(){}\[\],;|]+", text)}
-                found = found or (source.path == path and owner.startswith(title))
-    return found, words, unnamed
+def words(text):
+    return set(re.findall(r"[^\s(){}\[\],;|]+", text))
 
 
-def main():
-    repository = sources.Repository()
-    faults, told = [], {}
+def told_by(repository, crate, title, path):
+    """Whether the file has a public call or a type of this name, the words that a row may give as its clauses, and whether it has one clause, without
+    a name."""
+    calls = [it for it in repository.public_calls(crate) if it.title() == title and it.path == path]
+    types = [it for source in repository.sources[crate] for it in source.types if it.name == title and it.path == path]
+    ghosts = [it for source in repository.sources[crate] for it in source.ghosts if sources.first_word(it.owner) == title.partition("::")[0]]
+    impls = [source for source in repository.sources[crate] for it in source.ghosts if source.path == path and sources.first_word(it.owner) == title]
+    clauses = [clause for call in calls for clause in clauses_of(repository, call)]
+    known = {name for _, name, _ in clauses} | {it.name for it in ghosts}
+    known = known.union(*(words(text) for _, _, text in clauses), *(words(it.text) for it in ghosts))
+    return bool(calls or types or impls), known, len(clauses) == 1 and not clauses[0][1]
+
+
+def faults_of_rows(repository):
     for number, crate, title, _, clauses, path in rows():
-        told.setdefault(crate, set()).add(title)
-        found, words, unnamed = words_of(repository, crate, title, path)
-        if not found:
-            faults.append(f"docs/PROVED.md:{number}: {crate} has no {title} in {path}")
-            continue
+        where = f"docs/PROVED.md:{number}: {title} of {crate}"
+        is_there, known, is_unnamed = told_by(repository, crate, title, path) if crate in repository.below else (False, set(), False)
         names = [] if clauses.startswith("those of") else re.findall(r"`([^`]+)`", clauses)
-        for name in names:
-            if name not in words and f"{name}:" not in words:
-                faults.append(f"docs/PROVED.md:{number}: {title} of {crate} has no clause {name}")
-        if not names and not (clauses.strip() == ONE and unnamed) and not clauses.startswith("those of"):
-            faults.append(f"docs/PROVED.md:{number}: {title} of {crate} has no single clause without a name")
-    page = open(PAGE, encoding="utf-8").read()
+        if not is_there:
+            yield f"{where} is not in {path}"
+        elif names:
+            yield from (f"{where} has no clause {name}" for name in names if name not in known and f"{name}:" not in known)
+        elif not clauses.startswith("those of") and not (clauses.strip() == ONE and is_unnamed):
+            yield f"{where} has no single clause without a name"
+
+
+def faults_of_calls(repository, page):
+    """Public calls without a row. A type with a row speaks for the calls of the traits that it implements."""
+    told = {(crate, title) for _, crate, title, *_ in rows()}
     for crate in repository.below:
         if f"**{crate}**" in page:
             # one of the crates without a promise
             continue
         for call in repository.public_calls(crate):
-            owner = re.match(r"\w+", call.owner)[0] if call.owner else None
-            if call.name in PASSED or not (call.clauses or call.owner):
-                continue
-            # an impl of a trait of this repository has a row for its type
-            if call.title() not in told.get(crate, ()) and not (call.trait and owner in told.get(crate, ())):
-                if any(it[0] == "ensures" for it in call.clauses) or not call.trait:
-                    faults.append(f"{call.path}:{call.line}: {call.title()} of {crate} has no row in docs/PROVED.md")
-    below = {}
-    for line in sources.read("crates.txt").splitlines():
-        line = line.partition("#")[0].strip()
-        if line:
-            name, _, deps = line.partition(":")
-            below[name.split()[0]] = set(deps.split())
+            is_told = (crate, call.title()) in told or (call.trait and (not call.ensured() or (crate, sources.first_word(call.owner)) in told))
+            if call.name not in PASSED and call.clauses and not is_told:
+                yield f"{call.path}:{call.line}: {call.title()} of {crate} has no row in docs/PROVED.md"
+
+
+def faults_of_crates(repository, page):
+    """Crates that are not said to stand on what crates.txt has them stand on."""
     for part in re.split(r"^## ", page, flags=re.M)[1:]:
         crate = part.partition(":")[0].strip()
-        said = re.search(r"Stands on ([^\n]*)", part)
-        if crate in below and said:
-            names = {it.strip("`") for it in re.findall(r"lie_\w+|`\w+`", said[1])}
-            if names - {"std"} != below[crate]:
-                faults.append(f"docs/PROVED.md: {crate} stands on {' '.join(sorted(below[crate]))}, by crates.txt")
-        elif crate in below:
-            faults.append(f"docs/PROVED.md: {crate} isn't said to stand on anything")
+        if crate in repository.below:
+            said = re.search(r"Stands on ([^\n]*)", part)
+            names = {it.strip("`") for it in re.findall(r"lie_\w+|`\w+`", said[1])} if said else set()
+            if names - {"std"} != set(sources.listed()[crate]):
+                yield f"docs/PROVED.md: {crate} stands on {' '.join(sorted(sources.listed()[crate]))}, by crates.txt"
+
+
+def main():
+    repository = sources.Repository()
+    page = sources.read(os.path.join("docs", "PROVED.md"))
+    faults = [*faults_of_rows(repository), *faults_of_calls(repository, page), *faults_of_crates(repository, page)]
     for it in faults:
         print(it)
-    print(f"{sum(1 for _ in rows())} rows, {len(faults)} faults")
+    print(f"{len(list(rows()))} rows, {len(faults)} faults")
     return 1 if faults else 0
 
 

@@ -2,10 +2,13 @@
 and which definition each of them cites. It knows as much of the two languages as that takes, and no more."""
 import os
 import re
+from dataclasses import dataclass
 
 TOP = os.path.dirname(os.path.dirname(os.path.abspath(__file__)))
 # a word of a definition or a clause: a name, perhaps behind a module's name and a dot
 WORD = re.compile(r"[^\s(){}\[\],;|]+")
+USE = re.compile(r"(?:^|\s)(?:pub |ghost )?use\s+(Rattle\.[\w.]+?)(?:\.\{([^}]*)\})?(?:\s+as\s+(\w+))?\s*;?\s*(?=\n|$)")
+DECLARED = re.compile(r"Rattle\.(\w+)\.specs\.declared\.(?:\w+\.)*?(\w+?)(?:\.TheVariants|\.TheInside)?$")
 
 
 def read(path):
@@ -13,21 +16,30 @@ def read(path):
         return file.read()
 
 
+def first_word(text):
+    it = re.match(r"\w+", text or "")
+    return it[0] if it else None
+
+
+def without_comments(text):
+    return re.sub(r"--[^\n]*", "", text)
+
+
+def listed():
+    """Each crate of crates.txt with all that it stands on, libraries of the kit among them."""
+    lines = (line.partition("#")[0].strip() for line in read("crates.txt").splitlines())
+    return {line.partition(":")[0].split()[0]: line.partition(":")[2].split() for line in lines if line}
+
+
 def crates():
-    """The crates of crates.txt with those that each stands on, lowest first; the kit's crates are left out."""
-    below = {}
-    for line in read("crates.txt").splitlines():
-        line = line.partition("#")[0].strip()
-        if line:
-            name, _, deps = line.partition(":")
-            below[name.split()[0]] = deps.split()
-    below = {name: [dep for dep in deps if dep in below] for name, deps in below.items()}
+    """The crates with those of this repository that each stands on, lowest first."""
+    below = {name: [it for it in names if it in listed()] for name, names in listed().items()}
     order = []
 
     def place(name):
         if name not in order:
-            for dep in below[name]:
-                place(dep)
+            for it in below[name]:
+                place(it)
             order.append(name)
 
     for name in below:
@@ -35,65 +47,110 @@ def crates():
     return {name: below[name] for name in order}
 
 
-def closure(below, name):
-    found, todo = set(), [name]
-    while todo:
-        it = todo.pop()
-        if it not in found:
-            found.add(it)
-            todo += below[it]
-    return found
-
-
 def uses(text):
     """The names that the `use` lines of a text bring in: name here -> (module, name there); None for a whole module."""
     scope = {}
-    for it in re.finditer(r"(?:^|\s)(?:pub |ghost )?use\s+(Rattle\.[\w.]+?)(?:\.\{([^}]*)\})?(?:\s+as\s+([\w]+))?\s*;?\s*(?=\n|$)", text):
-        module, items, other = it.groups()
-        if items is None:
+    for module, items, other in USE.findall(text):
+        if not items:
             scope[other or module.rpartition(".")[2]] = (module, None)
-            continue
-        for item in items.split(","):
-            there, _, here = item.strip().partition(" as ")
-            if there:
-                scope[(here or there).strip()] = (module, there.strip())
+        for item in filter(None, (it.strip() for it in items.split(","))):
+            there, _, here = item.partition(" as ")
+            scope[(here or there).strip()] = (module, there.strip())
     return scope
 
 
-class Definition:
-    """One declaration of a file of `specs/`: its kind is record, data, abbrev, unfoldable or abstract."""
+def ghost_uses(text):
+    return uses("\n".join(re.sub(r"\s+", " ", it) for it in re.findall(r"ghost use [^;]*;", text)))
 
-    def __init__(self, file, line, kind, name, sentence):
-        self.file, self.line, self.kind, self.name, self.sentence = file, line, kind, name, sentence
-        self.text, self.cites = "", []
+
+def closing(text, at, opens, closes):
+    """The place behind the bracket that closes the one at `at`."""
+    depth = 0
+    for i in range(at, len(text)):
+        depth += (text[i] == opens) - (text[i] == closes)
+        if depth == 0:
+            return i + 1
+    return len(text)
+
+
+@dataclass(eq=False)
+class Definition:
+    """One declaration of a file of `specs/`: its kind is record, data, abbrev, unfoldable, or lemma where it has none of these words."""
+
+    file: "Specs"
+    kind: str
+    name: str
+    sentence: str
+    text: str
 
     def __repr__(self):
         return f"{self.file.crate}/{self.file.name}.{self.name}"
 
 
+@dataclass(eq=False)
+class Type:
+    """A type or a trait of `src/`."""
+
+    crate: str
+    path: str
+    line: int
+    kind: str
+    name: str
+    sentence: str
+
+    def __repr__(self):
+        return f"{self.crate}::{self.name}"
+
+
+@dataclass(eq=False)
+class Call:
+    """A function, or a method of a type or a trait, with its clauses: `ensures` or `requires`, a name, perhaps empty, and a text."""
+
+    crate: str
+    path: str
+    line: int
+    owner: str
+    trait: str
+    name: str
+    is_public: bool
+    clauses: list
+    text: str
+
+    def title(self):
+        return f"{self.owner}::{self.name}" if self.owner else self.name
+
+    def ensured(self):
+        return [it for it in self.clauses if it[0] == "ensures"]
+
+
+@dataclass(eq=False)
+class Ghost:
+    """A ghost member of a trait or of an impl block, with the names that stand in its block."""
+
+    owner: str
+    trait: str
+    name: str
+    text: str
+    scope: dict
+
+
 class Specs:
     """One file of `specs/`."""
 
-    HEAD = re.compile(r"^(?P<words>(?:(?:abbrev|unfoldable|pub|record|data|syntax|ruleset)\s+)*)(?P<name>[^\s(){},;:]+)\s*(?P<rest>[:({].*)$")
+    HEAD = re.compile(r"^(?P<words>(?:(?:abbrev|unfoldable|pub|record|data|syntax|ruleset)\s+)*)(?P<name>[^\s(){},;:]+)\s*[:({].*$")
+    KINDS = ("record", "data", "abbrev", "unfoldable", "syntax", "ruleset")
 
     def __init__(self, crate, path):
         self.crate, self.path = crate, path
-        self.name = path.partition("/specs/")[2][: -len(".antt")].replace("/", ".")
+        self.name = path.partition("/specs/")[2].removesuffix(".antt").replace("/", ".")
         self.module = f"Rattle.{crate}.specs.{self.name}"
-        self.text = read(path)
-        self.lines = self.text.splitlines()
-        self.scope = uses(self.text)
-        self.head = self.read_head()
+        text = read(path)
+        self.lines = text.splitlines()
+        self.scope = uses(text)
+        first = next((k for k, line in enumerate(self.lines) if not line.startswith("--")), len(self.lines))
+        self.head = [line[2:].strip() for line in self.lines[:first]]
         self.definitions = self.read_definitions()
-        self.constructors = {name: it for it in self.definitions.values() if it.kind == "data" for name in re.findall(r"^ +(\S+)(?: \S+)* :", strip_comments(it.text), re.M)}
-
-    def read_head(self):
-        head = []
-        for line in self.lines:
-            if not line.startswith("--"):
-                break
-            head.append(line[2:].strip())
-        return head
+        self.constructors = {name: it for it in self.definitions.values() if it.kind == "data" for name in re.findall(r"^ +(\S+)(?: \S+)* :", without_comments(it.text), re.M)}
 
     def named(self, name):
         """The definition of this name, or the data type with this constructor."""
@@ -101,108 +158,64 @@ class Specs:
 
     def sentence(self):
         """The head up to its first blank line or its source."""
-        kept = []
-        for line in self.head:
-            if not line or line.startswith(("Source:", "Own:", "Own.")):
-                break
-            kept.append(line)
-        return " ".join(kept)
+        ends = next((k for k, line in enumerate(self.head) if not line or line.startswith(("Source:", "Own:", "Own."))), len(self.head))
+        return " ".join(self.head[:ends])
+
+    def flat_lines(self):
+        """The lines behind the head, without the indentation of the modules with parameters around them, each with the text of these parameters."""
+        around, is_opening = [], False
+        for line in self.lines[len(self.head) :]:
+            spaces = len(line) - len(line.lstrip(" "))
+            while line.strip() and not is_opening and around and spaces < around[-1][0]:
+                around.pop()
+            if is_opening:
+                around[-1] = (around[-1][0], f"{around[-1][1]} {line}")
+            elif line.lstrip(" ").startswith("module "):
+                around.append((spaces + 2, line))
+                is_opening = True
+            else:
+                yield line[around[-1][0] :] if around else line, "\n".join(text for _, text in around)
+            is_opening = is_opening and not line.rstrip().endswith("where")
 
     def read_definitions(self):
-        found, above, now, in_head = {}, [], None, bool(self.head)
-        # the modules with parameters around a line: the indentation inside, and the text of the parameters
-        around, is_opening = [], False
-        for number, line in enumerate(self.lines, 1):
-            spaces = len(line) - len(line.lstrip(" "))
-            if is_opening:
-                around[-1] = (around[-1][0], around[-1][1] + line)
-                is_opening = not line.rstrip().endswith("where")
-                continue
-            while line.strip() and around and spaces < around[-1][0]:
-                around.pop()
-            if line.lstrip(" ").startswith("module "):
-                around.append((spaces + 2, line))
-                is_opening, above, now = not line.rstrip().endswith("where"), [], None
-                continue
-            line = line[around[-1][0] :] if around else line
-            if not line.startswith("--"):
-                in_head = False
-            if line.startswith("--"):
-                if not in_head:
-                    above.append(line[2:].strip())
-                continue
-            if not line.strip():
-                above, now = [], None
-                continue
-            if line[0] in " \t":
-                if now:
-                    now.text += "\n" + line
-                continue
-            if line.startswith(("use ", "pub use ", "pub mod ", "mod ", "unfolding ")):
-                above = above if line.startswith("unfolding ") else []
-                continue
+        found, above, now = {}, [], None
+        for line, around in self.flat_lines():
             it = self.HEAD.match(line)
-            if it and (it["words"] or not (now and now.name == it["name"])) and it["name"] not in found:
-                words = it["words"].split()
-                kind = next((word for word in ("record", "data", "abbrev", "unfoldable", "syntax", "ruleset") if word in words), "abstract")
-                now = Definition(self, number, kind, it["name"], " ".join(above))
-                now.is_public = "pub" in words
-                now.text = "\n".join([*(text for _, text in around), line])
-                found[now.name] = now
+            if line.startswith("--"):
+                above.append(line[2:].strip())
+            elif not line.strip():
+                above, now = [], None
+            elif line.startswith(("use ", "pub use ", "pub mod ", "mod ", "unfolding ")):
+                above = above if line.startswith("unfolding ") else []
+            elif it and it["name"] not in found and (it["words"] or now is None or now.name != it["name"]):
+                kind = next((word for word in self.KINDS if word in it["words"].split()), "lemma")
+                now = found[it["name"]] = Definition(self, kind, it["name"], " ".join(above), f"{around}\n{line}")
                 above = []
             elif now:
-                now.text += "\n" + line
+                now.text += f"\n{line}"
         return found
 
 
-class Type:
-    """A type of `src/` that definitions cite as a declared one."""
-
-    def __init__(self, crate, path, line, kind, name, sentence, text):
-        self.crate, self.path, self.line, self.kind, self.name, self.sentence, self.text = crate, path, line, kind, name, sentence, text
-
-    def __repr__(self):
-        return f"{self.crate}::{self.name}"
-
-
-class Call:
-    """A function, or a method of a type or trait, with its clauses: pairs of a name, perhaps empty, and a text."""
-
-    def __init__(self, crate, path, line, owner, trait, name, is_public, clauses, text):
-        self.crate, self.path, self.line, self.owner, self.trait = crate, path, line, owner, trait
-        self.name, self.is_public, self.clauses, self.text = name, is_public, clauses, text
-
-    def title(self):
-        return f"{self.owner}::{self.name}" if self.owner else self.name
-
-    def __repr__(self):
-        return f"{self.crate}::{self.title()}"
-
-
-def block(text, at):
-    """The end of the block in braces that opens at `at`."""
-    depth = 0
-    for i in range(at, len(text)):
-        depth += {"{": 1, "}": -1}.get(text[i], 0)
-        if depth == 0:
-            return i + 1
-    return len(text)
-
-
 class Source:
-    """One file of `src/`: its types, its functions with their clauses, and the ghost members of its impl blocks."""
+    """One file of `src/`: its types, its functions with their clauses, and the ghost members of its traits and impl blocks."""
 
-    ITEM = re.compile(r"^(?P<indent>[ ]*)(?P<pub>pub(?:\([^)]*\))? )?(?P<kind>fn|struct|enum|trait|impl|mod)\b(?P<rest>.*)$", re.M)
+    ITEM = re.compile(r"^ *(?P<pub>pub(?:\([^)]*\))? )?(?P<kind>fn|struct|enum|trait|impl|mod)\b(?P<rest>.*)$", re.M)
+    CLAUSE = re.compile(r"\b(ensures|requires)\b(?:\s+(\w+))?\s*\{|[{;]")
 
     def __init__(self, crate, path):
         self.crate, self.path = crate, path
         self.text = read(path)
+        # without comments, at the same places
         self.plain = re.sub(r"//[^\n]*", lambda it: " " * len(it[0]), self.text)
-        self.scope = uses("\n".join(re.sub(r"\s+", " ", it) for it in re.findall(r"ghost use [^;]*;", self.plain)))
+        self.scope = ghost_uses(self.plain)
         self.types, self.calls, self.ghosts = [], [], []
         self.read_items()
 
+    def line(self, at):
+        return self.plain.count("\n", 0, at) + 1
+
     def doc(self, at):
+        """The first paragraph of the comment above an item."""
         lines = []
         for line in reversed(self.text[:at].splitlines()):
             line = line.strip()
@@ -210,120 +223,95 @@ class Source:
                 lines.insert(0, line[3:].strip())
             elif not line.startswith("#["):
                 break
-        return " ".join(lines).split("  ")[0]
+        return " ".join(lines[: lines.index("")] if "" in lines else lines)
 
     def read_items(self):
-        owners = []
+        # the blocks around a place: where each ends, its owner and its trait
+        around = []
         for it in self.ITEM.finditer(self.plain):
-            at = it.start()
-            owners = [owner for owner in owners if owner[0] > at]
-            line = self.plain.count("\n", 0, at) + 1
-            kind, is_public = it["kind"], bool(it["pub"]) and "(" not in (it["pub"] or "")
-            rest = it["rest"].strip()
-            if kind in ("impl", "trait"):
-                opens = self.plain.index("{", at)
-                ends = block(self.plain, opens)
-                head = re.sub(r"\s+", " ", self.plain[at:opens])
-                trait, owner = None, None
-                if kind == "trait":
-                    owner = re.match(r"\w+", rest)[0]
-                    self.types.append(Type(self.crate, self.path, line, "trait", owner, self.doc(at), self.plain[at:ends]))
-                else:
-                    head = re.sub(r"<[^<>]*(?:<[^<>]*>[^<>]*)*>", "", head.partition("impl")[2]).strip()
-                    trait, _, owner = head.rpartition(" for ")
-                    owner, trait = owner.strip(), trait.strip() or None
-                owners.append((ends, owner, trait, kind, is_public))
-                if kind == "trait" or trait:
-                    body = self.plain[opens:ends]
-                    for ghost in re.finditer(r"ghost (\w+)\s*(?::|=)\s*\{", body):
-                        to = block(body, ghost.end() - 1)
-                        local = uses("\n".join(re.sub(r"\s+", " ", use) for use in re.findall(r"ghost use [^;]*;", body)))
-                        self.ghosts.append((owner, trait, ghost[1], body[ghost.end() - 1 : to], local))
+            at, kind, rest = it.start(), it["kind"], it["rest"].strip()
+            around = [block for block in around if block[0] > at]
+            if kind == "fn":
+                self.read_call(it, around[-1] if around else None)
             elif kind in ("struct", "enum"):
-                name = re.match(r"\w+", rest)[0]
-                stop = re.compile(r"[;{]").search(self.plain, at)
-                ends = block(self.plain, stop.start()) if stop[0] == "{" else stop.end()
-                self.types.append(Type(self.crate, self.path, line, kind, name, self.doc(at), self.plain[at:ends]))
-            elif kind == "mod" and rest.endswith("{"):
-                ends = block(self.plain, self.plain.index("{", at))
-                owners.append((ends, None, "mod", "mod", False))
-            elif kind == "fn":
-                self.read_call(it, at, line, is_public, owners)
+                self.types.append(Type(self.crate, self.path, self.line(at), kind, first_word(rest), self.doc(at)))
+            elif kind in ("impl", "trait") or rest.endswith("{"):
+                opens = self.plain.index("{", at)
+                ends = closing(self.plain, opens, "{", "}")
+                owner, trait = None, None
+                if kind == "trait":
+                    owner = trait = first_word(rest)
+                    self.types.append(Type(self.crate, self.path, self.line(at), kind, owner, self.doc(at)))
+                elif kind == "impl":
+                    head = re.sub(r"\s+", " ", self.plain[at:opens]).partition("impl")[2]
+                    head = re.sub(r"<[^<>]*(?:<[^<>]*>[^<>]*)*>", "", head).strip()
+                    trait, _, owner = (part.strip() or None for part in head.rpartition(" for "))
+                around.append((ends, owner, trait))
+                if trait:
+                    self.read_ghosts(owner, trait, self.plain[opens:ends])
 
-    def read_call(self, it, at, line, is_public, owners):
-        name = re.match(r"\w+", it["rest"].strip())[0]
-        inner = owners[-1] if owners else None
-        if inner and inner[3] == "mod":
+    def read_ghosts(self, owner, trait, body):
+        scope = {**self.scope, **ghost_uses(body)}
+        for it in re.finditer(r"ghost (\w+)\s*[:=]\s*\{", body):
+            self.ghosts.append(Ghost(owner, trait, it[1], body[it.end() - 1 : closing(body, it.end() - 1, "{", "}")], scope))
+
+    def read_call(self, it, block):
+        _, owner, trait = block or (None, None, None)
+        if block and not owner:
+            # in a module of tests
             return
-        clauses, i = [], at
-        # the signature ends at a brace that opens the body, or at a semicolon; clauses have braces of their own
-        part = re.compile(r"\b(ensures|requires)\b(?:\s+(\w+))?\s*\{|[{;]")
-        depth_free = self.skip_signature(at)
-        i = depth_free
-        while True:
-            found = part.search(self.plain, i)
-            if not found or not found[1]:
-                break
-            to = block(self.plain, found.end() - 1)
-            clauses.append((found[1], found[2] or "", self.plain[found.end() : to - 1]))
-            i = to
-        owner, trait = (inner[1], inner[2]) if inner else (None, None)
-        is_public = is_public or bool(inner and (inner[3] == "trait" or trait))
-        self.calls.append(Call(self.crate, self.path, line, owner, trait, name, is_public, clauses, self.plain[at:i]))
-
-    def skip_signature(self, at):
-        """The place behind the parameters."""
-        opens = self.plain.index("(", at)
-        depth = 0
-        for i in range(opens, len(self.plain)):
-            depth += {"(": 1, ")": -1}.get(self.plain[i], 0)
-            if depth == 0:
-                return i + 1
-        return len(self.plain)
+        # clauses stand behind the parameters, up to the brace that opens the body or a semicolon
+        at = closing(self.plain, self.plain.index("(", it.start()), "(", ")")
+        clauses = []
+        while (found := self.CLAUSE.search(self.plain, at)) and found[1]:
+            at = closing(self.plain, found.end() - 1, "{", "}")
+            clauses.append((found[1], found[2] or "", self.plain[found.end() : at - 1]))
+        is_public = (it["pub"] or "").strip() == "pub" or trait is not None
+        # the method of a trait has the trait as its owner alone
+        trait = None if trait == owner else trait
+        self.calls.append(Call(self.crate, self.path, self.line(it.start()), owner, trait, first_word(it["rest"].strip()), is_public, clauses, self.plain[it.start() : at]))
 
 
 class Repository:
     def __init__(self):
         self.below = crates()
-        self.specs, self.sources, self.modules, self.declared = {}, {}, {}, {}
-        for crate in self.below:
-            self.specs[crate], self.sources[crate] = [], []
-            for folder, kind, to in (("specs", ".antt", self.specs), ("src", ".rt", self.sources)):
-                for at, _, names in sorted(os.walk(os.path.join(TOP, "crates", crate, folder))):
-                    for name in sorted(names):
-                        if name.endswith(kind) and name != "Lib.antt":
-                            path = os.path.relpath(os.path.join(at, name), TOP)
-                            to[crate].append((Specs if kind == ".antt" else Source)(crate, path))
-            for file in self.specs[crate]:
-                self.modules[file.module] = file
-            for source in self.sources[crate]:
-                for it in source.types:
-                    self.declared[crate, it.name] = it
-            self.exported = getattr(self, "exported", {})
-            top = next((it for it in self.sources[crate] if it.path.endswith(("src/lib.rt", "src/main.rt"))), None)
-            self.exported[crate] = set(re.findall(r"\w+", " ".join(re.findall(r"pub use [^;]*;", top.plain)))) if top else set()
+        self.specs = {crate: [Specs(crate, path) for path in files(crate, "specs", ".antt")] for crate in self.below}
+        self.sources = {crate: [Source(crate, path) for path in files(crate, "src", ".rt")] for crate in self.below}
+        self.modules = {file.module: file for each in self.specs.values() for file in each}
+        self.declared = {(crate, it.name): it for crate, each in self.sources.items() for source in each for it in source.types}
+        self.exported = {crate: self.exports(crate) for crate in self.below}
+
+    def exports(self, crate):
+        tops = [it for it in self.sources[crate] if it.path.endswith("src/lib.rt")]
+        return {name for top in tops for use in re.findall(r"pub use [^;]*;", top.plain) for name in re.findall(r"\w+", use)}
 
     def public_calls(self, crate):
-        """The calls that other crates can make: exported functions, and methods of exported types and traits."""
+        """The calls that other crates can make: exported functions, and methods of exported types and traits; of a program, those of its main file."""
         names = self.exported[crate]
         for source in self.sources[crate]:
             for call in source.calls:
-                if call.is_public and (call.owner or call.name) in names:
+                if source.path.endswith("src/main.rt") or (call.is_public and (first_word(call.owner) or call.name) in names):
                     yield call
-                elif call.is_public and call.trait and call.owner and re.match(r"\w+", call.owner)[0] in names:
-                    yield call
+
+    def public_ghosts(self, crate):
+        """The ghost members that callers see: those of exported traits and of impls for exported types, and what the values of such types are."""
+        names = self.exported[crate]
+        for source in self.sources[crate]:
+            for it in source.ghosts:
+                is_seen = first_word(it.owner) in names or first_word(it.trait) in names
+                if is_seen and (it.trait != "Model" or it.name == "Value"):
+                    yield it
 
     def unresolved(self):
         """The names that `use` lines take from this repository and that are not found: there are none, or this reader misses something."""
-        texts = [(it.path, it.scope) for crate in self.below for it in (*self.specs[crate], *self.sources[crate])]
-        for path, scope in texts:
-            for here, (module, there) in scope.items():
-                if module.partition(".")[2].partition(".")[0] in self.below and ".proofs." not in module:
-                    if there is not None and self.resolve(scope, here) is None:
-                        yield path, module, there
+        for file in (it for crate in self.below for it in (*self.specs[crate], *self.sources[crate])):
+            for here, (module, there) in file.scope.items():
+                is_ours = module.split(".")[1] in self.below and ".proofs." not in module
+                if is_ours and there is not None and self.resolve(file.scope, here) is None:
+                    yield file.path, module, there
 
     def resolve(self, scope, word, own=None):
-        """The definition or declared type that a word names, or None."""
+        """The definition or the declared type that a word names, (module, name) for a word of the kit, or None."""
         parts = word.split(".")
         for i in range(len(parts), 0, -1):
             name = ".".join(parts[:i])
@@ -331,59 +319,55 @@ class Repository:
                 return own.named(name)
             if name in scope:
                 module, there = scope[name]
+                declared = DECLARED.match(module)
+                if declared:
+                    return self.declared.get(declared.groups())
+                file = self.modules.get(module)
+                if file is None:
+                    return (module, there or "")
                 if there is None:
-                    # a whole module: the next part is the name there
-                    if i < len(parts) and module in self.modules:
-                        return self.modules[module].named(parts[i])
-                    there = ""
-                it = re.match(r"Rattle\.(\w+)\.specs\.declared\.(?:[\w]+\.)*?(\w+?)(?:\.TheVariants|\.TheInside)?$", module)
-                if it:
-                    return self.declared.get((it[1], it[2]))
-                if module in self.modules:
-                    return self.modules[module].named(there) or (there in self.modules[module].scope and self.resolve(self.modules[module].scope, there)) or None
-                return (module, there)
+                    # a whole module: the next part is a name of it
+                    return file.named(parts[i]) if i < len(parts) else None
+                return file.named(there) or (self.resolve(file.scope, there) if there in file.scope else None)
         return None
 
     def cited(self, text, scope, own=None):
         """What a text cites, in its order, each once."""
         found = []
-        for word in WORD.findall(strip_comments(text)):
+        for word in WORD.findall(without_comments(text)):
             holes = [key for key in scope if "◌" in key and word in key.split("◌")]
-            for name in [word, *holes]:
-                it = self.resolve(scope, name, own)
+            for it in (self.resolve(scope, name, own) for name in (word, *holes)):
                 if it is not None and it not in found:
                     found.append(it)
         return found
 
-    def cites(self, definition):
-        text = definition.text
-        if definition.kind == "abstract":
-            # a lemma: its statement alone
-            text = re.split(r"^\S+[^:]*=\s", text, maxsplit=1, flags=re.M)[0]
-        return [it for it in self.cited(text, definition.file.scope, definition.file) if it is not definition]
+    def cited_by(self, calls):
+        """What the clauses of these calls cite."""
+        scopes = {source.path: source.scope for each in self.sources.values() for source in each}
+        return [it for call in calls for _, _, text in call.clauses for it in self.cited(text, scopes[call.path])]
+
+    def cites(self, it):
+        """What a definition cites; of a lemma, its statement; of a declared type, what its values are."""
+        if isinstance(it, Definition):
+            text = re.split(r"^\S+[^:]*=\s", it.text, maxsplit=1, flags=re.M)[0] if it.kind == "lemma" else it.text
+            return [other for other in self.cited(text, it.file.scope, it.file) if other is not it]
+        ghosts = [ghost for source in self.sources[it.crate] for ghost in source.ghosts if first_word(ghost.owner) == it.name]
+        return [other for ghost in ghosts if ghost.trait != "Model" or ghost.name in ("Value", "view") for other in self.cited(ghost.text, ghost.scope)]
 
     def reach(self, first):
-        """All that these reach."""
+        """All that these reach, without the words of the kit."""
         found, todo = {}, list(first)
         while todo:
             it = todo.pop(0)
-            if id(it) in found or isinstance(it, tuple):
-                continue
-            found[id(it)] = it
-            todo += self.cites(it) if isinstance(it, Definition) else self.type_cites(it)
+            if id(it) not in found and not isinstance(it, tuple):
+                found[id(it)] = it
+                todo += self.cites(it)
         return list(found.values())
 
-    def type_cites(self, it):
-        """What a declared type rests on: the ghost members that say what it stands for."""
-        found = []
-        for source in self.sources[it.crate]:
-            for owner, trait, name, text, local in source.ghosts:
-                if owner and re.match(r"\w+", owner) and re.match(r"\w+", owner)[0] == it.name:
-                    if trait == "Model" and name not in ("Value", "view"):
-                        continue
-                    found += self.cited(text, {**source.scope, **local})
-        return found
 
-
-def strip_comments(text):
-    return re.sub(r"--[^\n]*", "", text)
+def files(crate, folder, kind):
+    """The files of a folder of a crate with this ending, by name, without those that only list others."""
+    for at, _, names in sorted(os.walk(os.path.join(TOP, "crates", crate, folder))):
+        for name in sorted(names):
+            if name.endswith(kind) and name != "Lib.antt":
+                yield os.path.relpath(os.path.join(at, name), TOP)

@@ -17,45 +17,57 @@ TARGET = os.path.join(sources.TOP, "docs", "STATEMENT.md")
 LATE = ["lie_kit", "lie_session"]
 
 
+INTRODUCTION = """\
+# What a reader must believe
+
+`lie` (`crates/lie_session/src/program.rt`) is the call that the program makes, and its clauses are what is proved of the program. This page
+has the {definitions} definitions of {files} files, and the {types} types of the code, on which these clauses rest, in reading order: from numbers and fields to
+replies. Who has read them knows what the clauses say. Bodies and lemmas need no reading: the prover checks them. What the clauses promise in
+words stands in [PROVED.md](PROVED.md).
+
+The page is made by `docs/statement.py` from the sources; `python3 docs/statement.py --check` compares. Each sentence is the comment above its
+definition.
+
+## The clauses
+"""
+LIBRARY = """\
+
+## Words of the kit's library
+
+The definitions use these words of the kit, which mean what they mean there.
+"""
+
+
 def anchor(heading):
     return re.sub(r"[^\w\- ]", "", heading.lower()).replace(" ", "-")
 
 
-def cell(text):
-    return text.replace("|", "\\|")
+def heading(it):
+    return f"{it.file.crate}: {it.file.name}" if isinstance(it, Definition) else f"{it.crate}: types of the code"
+
+
+def link(path):
+    return f"[{path.partition('crates/')[2].partition('/')[2]}](../{path})"
+
+
+def table(head, rows):
+    return ["", f"| {head} | It says |", "|---|---|", *(f"| {name} | {said.replace('|', chr(92) + '|')} |" for name, said in rows)]
 
 
 def top_call(repository):
-    for source in repository.sources["lie_session"]:
-        for call in source.calls:
-            if call.name == "lie" and not call.owner:
-                return call, source
-    sys.exit("the top call `lie` was not found")
+    calls = [(call, source) for source in repository.sources["lie_session"] for call in source.calls if call.title() == "lie"]
+    return calls[0] if calls else sys.exit("the top call `lie` was not found")
 
 
 def traits_of(repository, call):
-    """The traits of this repository that bound the type parameters of a call."""
-    bounds = re.search(r"<([^>]*)>", call.text)
-    names = re.findall(r":\s*(\w+)", bounds[1]) if bounds else []
+    """The traits of this repository that bound the type parameters of a call, each with its file and its methods."""
+    names = re.findall(r":\s*(\w+)", call.text.partition("<")[2].partition(">")[0])
+    files = [source for each in repository.sources.values() for source in each]
     for name in names:
-        for crate in repository.below:
-            for source in repository.sources[crate]:
-                for it in source.types:
-                    if it.kind == "trait" and it.name == name:
-                        yield it, source
-
-
-def first_cited(repository):
-    """What the clauses of `lie` cite, and those of the traits of its source and sink."""
-    call, source = top_call(repository)
-    clauses = [(name, repository.cited(text, source.scope)) for kind, name, text in call.clauses]
-    found = [it for _, cited in clauses for it in cited]
-    for trait, where in traits_of(repository, call):
-        for method in where.calls:
-            if method.owner == trait.name:
-                for _, _, text in method.clauses:
-                    found += repository.cited(text, where.scope)
-    return clauses, found
+        for source in files:
+            for it in source.types:
+                if it.kind == "trait" and it.name == name:
+                    yield it, source, [method for method in source.calls if method.owner == name]
 
 
 def in_reading_order(repository, files):
@@ -76,124 +88,81 @@ def in_reading_order(repository, files):
     return order
 
 
-def page(repository):
-    call, source = top_call(repository)
-    clauses, first = first_cited(repository)
-    reached = repository.reach(first)
-    definitions = [it for it in reached if isinstance(it, Definition) and it.kind != "abstract"]
-    types = [it for it in reached if isinstance(it, Type)]
-    traits = list(traits_of(repository, call))
-    files = {it.file for it in definitions}
-    order = sorted(repository.below, key=lambda crate: LATE.index(crate) if crate in LATE else -1)
-    bare = [it for it in definitions if not it.sentence] + [it for it in types if not it.sentence]
+def first_sentence(repository, crate):
+    top = next(it for it in repository.sources[crate] if it.path.endswith(("src/lib.rt", "src/main.rt")))
+    lines = top.text.splitlines()
+    return " ".join(line[3:].strip() for line in lines[: lines.index("//!")])
 
-    out = ["# What a reader must believe", ""]
-    out += [
-        "`lie` (`crates/lie_session/src/program.rt`) is the call that the program makes, and its clauses are what is proved of the program. This page",
-        f"has the {len(definitions)} definitions of {len(files)} files, and the {len(types)} types of the code, on which these clauses rest, in reading order: from numbers and fields to",
-        "replies. Who has read them knows what the clauses say. Bodies and lemmas need no reading: the prover checks them. What the clauses promise in",
-        "words stands in [PROVED.md](PROVED.md).",
-        "",
-        "The page is made by `docs/statement.py` from the sources; `python3 docs/statement.py --check` compares. Each sentence is the comment above its",
-        "definition.",
-        "",
-        "## The clauses",
-        "",
-        "| Clause of `lie` | Begins with |",
-        "|---|---|",
-    ]
-    for name, cited in clauses:
-        own = [it for it in cited if isinstance(it, (Definition, Type))]
-        names = ", ".join(f"[`{it.name}`](#{anchor(heading_of(it))})" for it in own)
-        out.append(f"| `{name}` | {names} |")
-    out += ["", "Files, in the order of this page:", ""]
-    body = []
-    for crate in order:
+
+def of_trait(repository, trait, source, methods):
+    """The ghost members of a trait with the comments above them, and what the clauses of its methods cite."""
+    text = source.text[source.text.index(f"trait {trait.name}") :]
+    rows = []
+    for comment, name in re.findall(r"((?: *///[^\n]*\n)+) *ghost (\w+):", text):
+        rows.append((f"`{name}`", " ".join(line.strip().removeprefix("///").strip() for line in comment.strip().splitlines())))
+    for method in methods:
+        for kind, name, text in method.clauses:
+            names = ", ".join(f"`{it.name}`" for it in repository.cited(text, source.scope) if isinstance(it, Definition))
+            if names:
+                rows.append((f"`{method.name}`, {kind} `{name}`", names))
+    return ["", f"### {trait.crate}: {trait.name}", "", f"{link(trait.path)}. {trait.sentence}", *table("Member, clause", rows)]
+
+
+def of_types(crate, types):
+    rows = [(f"`{it.name}` in {link(it.path)}", it.sentence) for it in sorted(types, key=lambda it: (it.path, it.line))]
+    return ["", f"### {crate}: types of the code", *table("Type", rows)]
+
+
+def of_file(file, definitions):
+    rows = [(f"`{it.name}`", it.sentence) for it in file.definitions.values() if it in definitions]
+    return ["", f"### {file.crate}: {file.name}", "", f"{link(file.path)}. {file.sentence()}", *table("Definition", rows)]
+
+
+def of_library(repository, definitions):
+    words = {}
+    for found in (it for definition in definitions for it in repository.cites(definition)):
+        if isinstance(found, tuple) and ".proofs." not in found[0]:
+            words.setdefault(found[0].removeprefix("Rattle."), set()).add(found[1])
+    return [LIBRARY, *(f"- `{module}`: " + " ".join(f"`{name}`" for name in sorted(words[module])) for module in sorted(words))]
+
+
+def page(repository):
+    """The page, the definitions on it, and what has no sentence above it."""
+    call, source = top_call(repository)
+    traits = list(traits_of(repository, call))
+    reached = repository.reach(repository.cited_by([call, *(method for _, _, methods in traits for method in methods)]))
+    definitions = {it: None for it in reached if isinstance(it, Definition) and it.kind != "lemma"}
+    types = [it for it in reached if isinstance(it, Type)]
+    files = {it.file for it in definitions}
+    clauses, contents, body = [], [], []
+    for _, name, text in call.clauses:
+        cited = [it for it in repository.cited(text, source.scope) if isinstance(it, (Definition, Type))]
+        clauses.append(f"| `{name}` | {', '.join(f'[`{it.name}`](#{anchor(heading(it))})' for it in cited)} |")
+    for crate in sorted(repository.below, key=lambda crate: LATE.index(crate) if crate in LATE else -1):
         mine = in_reading_order(repository, [file for file in repository.specs[crate] if file in files])
         own = [it for it in types if it.crate == crate]
-        told = [(trait, where) for trait, where in traits if trait.crate == crate]
-        if not mine and not own:
-            continue
-        body += ["", f"## {crate}", "", first_sentence(repository, crate)]
-        out.append(f"- [{crate}](#{anchor(crate)}): " + ", ".join(f"[{file.name}](#{anchor(f'{crate}: {file.name}')})" for file in mine))
-        for trait, where in told:
-            body += ["", f"### {crate}: {trait.name}", "", f"[{base(trait.path)}](../{trait.path}). {trait.sentence}", "", "| Member, clause | It says |", "|---|---|"]
-            for it in re.finditer(r"((?:[ ]*///[^\n]*\n)+)[ ]*ghost (\w+):", where.text[where.text.index(f"trait {trait.name}") :]):
-                said = " ".join(line.strip()[3:].strip() for line in it[1].strip().splitlines())
-                body.append(f"| `{it[2]}` | {cell(said)} |")
-            for method in where.calls:
-                if method.owner == trait.name:
-                    for kind, name, text in method.clauses:
-                        names = ", ".join(f"`{it.name}`" for it in repository.cited(text, where.scope) if isinstance(it, Definition))
-                        if names:
-                            body.append(f"| `{method.name}`, {kind} `{name}` | {names} |")
-        if own:
-            body += ["", f"### {crate}: types of the code", "", "| Type | It is |", "|---|---|"]
-            for it in sorted(own, key=lambda it: (it.path, it.line)):
-                body.append(f"| `{it.name}` in [{base(it.path)}](../{it.path}) | {cell(it.sentence)} |")
-        for file in mine:
-            body += ["", f"### {crate}: {file.name}", "", f"[{base(file.path)}](../{file.path}). {file.sentence()}", "", "| Definition | It says |", "|---|---|"]
-            for it in file.definitions.values():
-                if it in definitions:
-                    body.append(f"| `{it.name}` | {cell(it.sentence)} |")
-    out += body
-    library = {}
-    for it in definitions:
-        for found in repository.cites(it):
-            if isinstance(found, tuple):
-                library.setdefault(found[0].removeprefix("Rattle."), set()).add(found[1])
-    out += ["", "## Words of the kit's library", "", "The definitions use these words of the kit, which mean what they mean there.", ""]
-    for module in sorted(library):
-        if ".proofs." not in module:
-            out.append(f"- `{module}`: " + " ".join(f"`{name}`" for name in sorted(library[module])))
-    return "\n".join(out) + "\n", definitions, bare
-
-
-def heading_of(it):
-    return f"{it.file.crate}: {it.file.name}" if isinstance(it, Definition) else f"{it.crate}: types of the code"
-
-
-def base(path):
-    return path.partition("crates/")[2].partition("/")[2]
-
-
-def first_sentence(repository, crate):
-    for source in repository.sources[crate]:
-        if source.path.endswith(("src/lib.rt", "src/main.rt")):
-            lines = []
-            for line in source.text.splitlines():
-                if not line.startswith("//!") or line == "//!":
-                    break
-                lines.append(line[3:].strip())
-            return " ".join(lines)
-    return ""
-
-
-def public_reach(repository):
-    """What the public clauses of all crates reach."""
-    first = []
-    for crate in repository.below:
-        public = {id(it) for it in repository.public_calls(crate)}
-        for source in repository.sources[crate]:
-            is_program = source.path.endswith("main.rt")
-            for call in source.calls:
-                if id(call) in public or is_program:
-                    for _, _, text in call.clauses:
-                        first += repository.cited(text, source.scope)
-            for owner, trait, name, text, local in source.ghosts:
-                names = [re.match(r"\w+", it)[0] for it in (owner, trait) if it and re.match(r"\w+", it)]
-                if any(it in repository.exported[crate] for it in names) and (trait != "Model" or name == "Value"):
-                    first += repository.cited(text, {**source.scope, **local})
-    return repository.reach(first)
+        if mine or own:
+            contents.append(f"- [{crate}](#{anchor(crate)}): " + ", ".join(f"[{file.name}](#{anchor(f'{crate}: {file.name}')})" for file in mine))
+            body += ["", f"## {crate}", "", first_sentence(repository, crate)]
+            body += [line for each in traits if each[0].crate == crate for line in of_trait(repository, *each)]
+            body += of_types(crate, own) if own else []
+            body += [line for file in mine for line in of_file(file, definitions)]
+    text = INTRODUCTION.format(definitions=len(definitions), files=len(files), types=len(types))
+    head = [text, "| Clause of `lie` | Begins with |", "|---|---|", *clauses, "", "Files, in the order of this page:", "", *contents]
+    return "\n".join([*head, *body, *of_library(repository, definitions)]) + "\n", definitions, [it for it in (*definitions, *types) if not it.sentence]
 
 
 def apart(repository):
-    """Each file of specs/, whether a public clause reaches it, and whether its head says that none does: `no public clause cites it`."""
-    reached = {id(it.file) for it in public_reach(repository) if isinstance(it, Definition) and it.kind != "abstract"}
+    """Each file of specs/, whether a public clause of any crate reaches it, and whether its head says that none does: `no public clause cites it`."""
+    first = []
+    for crate in repository.below:
+        first += repository.cited_by(repository.public_calls(crate))
+        for ghost in repository.public_ghosts(crate):
+            first += repository.cited(ghost.text, ghost.scope)
+    reached = {it.file for it in repository.reach(first) if isinstance(it, Definition) and it.kind != "lemma"}
     for crate in repository.below:
         for file in repository.specs[crate]:
-            says = any("no public clause cites it" in line for line in file.head)
-            yield file, id(file) in reached, says
+            yield file, file in reached, any("no public clause cites it" in line for line in file.head)
 
 
 def main(words):

@@ -1,4 +1,5 @@
 -- Lemmas that the law of a field's value needs, in the order in which they rest on one another.
+-- For proofs: no public clause cites it.
 pub mod Lists
 pub mod Shifts
 pub mod Digits

@@ -1,5 +1,5 @@
 -- The laws of finite fields and of the faults, as statements. `src/laws.rt` publishes each.
--- Source: any text on finite fields, as that of Lidl and Niederreiter.
+-- Source: Lidl, Niederreiter, Finite Fields, chapter 1, section 3 (residue classes of polynomials) and chapter 2, section 1 (the units are a cyclic group).
 --
 --   Z[x]                  lists of coefficients, from the constant coefficient up
 --   the quotient map      element f          from Z[x] to the numbers below q

@@ -1,5 +1,6 @@
 -- The tables that the operations of a field are read from.
--- Source: any text on finite fields, as that of Lidl and Niederreiter (Zech's logarithm).
+-- For proofs: no public clause cites it.
+-- Source: Lidl, Niederreiter, Finite Fields (Zech's logarithm, there Jacobi's).
 use Rattle.std.specs.Prelude.{◌≡◌, ℕ, zero, suc, ◌-◌, ◌<◌, List, Option, Some, None, length, get_or}
 use Rattle.lie_field.specs.Quotient.{FieldData, order, add, neg, power}
 use Rattle.lie_field.specs.declared.tables.Tables.{Tables}

@@ -1,4 +1,5 @@
 -- The numbers that a product modulo f is made with.
+-- For proofs: no public clause cites it.
 use Rattle.std.specs.Prelude.{◌≡◌, ◌-◌, ◌^◌, ◌<◌, ◌≤◌}
 use Rattle.lie_field.specs.Polynomials.{residues, number}
 use Rattle.lie_field.specs.Quotient.{FieldData, degree, leading}

@@ -1,5 +1,5 @@
 -- The units of a finite field, by their numbers, and the laws of their powers.
--- Source: any text on algebra (powers in a commutative group).
+-- Source: Lang, Algebra, I.1 and I.2 (powers in monoids and groups).
 --
 --   a unit         IsUnit f a                  an element that is not 0
 --   a^n            power_int f.given a n       for an integer n

@@ -11,7 +11,7 @@ use Rattle.lie_reply.specs.Texts.{constant_text}
 -- the constant and the terms of two roots have one text
 pub one_constant_text : (D : RootDatum) (p q : ℤ) (a b : List ℕ) → IsLoaded D → ConstantTextOf D p q a → ConstantTextOf D p q b → a ≡ b
 one_constant_text D p q a b loaded x y =
-    let n = unique D loaded x.table y.table x.stands y.stands p q x.pair.left x.pair.right x.pair.independent in
+    let n = unique D loaded x.table y.table x.stands y.stands p q x.pair.left x.pair.right in
     let terms = one_terms D loaded x.table y.table x.stands y.stands p q x.terms y.terms x.are y.are in
     x.is ∙ ap₂ constant_text n terms ∙ sym y.is
 

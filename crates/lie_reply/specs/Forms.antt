@@ -1,5 +1,5 @@
 -- Forms of words in the Borel subgroup, which is the product of its unipotent radical and the torus.
--- Source: any text on Chevalley groups, as that of Carter or of Steinberg, on the Borel subgroup.
+-- Source: Carter, Simple Groups of Lie Type, 7.1 (U and the diagonal subgroup) and 8.4 (the normal form).
 -- Own: the collected list, which fixes the elements of a form.
 --
 --   the frame of a group      frame_of F D c        the field, the root datum and its constants

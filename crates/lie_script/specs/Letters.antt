@@ -19,6 +19,7 @@ use Rattle.lie_script.specs.declared.letter_set.LetterSet.{LetterSet}
 use Rattle.lie_script.specs.declared.letter_set.LetterSet.TheVariants.{Borel, All}
 use Rattle.lie_script.specs.declared.sizes.Sizes.{Sizes}
 
+-- a comma, which parts the elements of a torus letter
 abbrev pub is_comma : ℕ → Bool
 is_comma b = nat_eq b 44
 

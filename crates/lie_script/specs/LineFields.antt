@@ -1,4 +1,5 @@
 -- What a field says, apart from where it lies in memory.
+-- For proofs: no public clause cites it.
 -- Own.
 use Rattle.std.specs.Prelude.{ℕ, List, [], map, Option, Some, None}
 use Rattle.std.specs.Borrow.{Bor}

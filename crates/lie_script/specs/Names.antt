@@ -1,7 +1,8 @@
 -- Names of modules.
 -- Own.
 use Rattle.std.specs.Prelude.{ℕ, List, [], Option, bytes_eq}
-use Rattle.std.specs.Map.{lookup}
+use Rattle.std.specs.List.{IsDistinct}
+use Rattle.std.specs.Map.{lookup, keys_of}
 
 -- names with their dimensions
 abbrev pub Listed : Type 0
@@ -14,3 +15,8 @@ dimension_of listed name = lookup (λ other. bytes_eq other name) listed
 -- no names
 abbrev pub none_listed : Listed
 none_listed = []
+
+-- among no names none repeats
+pub none-repeats : IsDistinct bytes_eq (keys_of none_listed)
+unfolding IsDistinct
+none-repeats = tt

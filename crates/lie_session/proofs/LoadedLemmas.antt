@@ -36,7 +36,7 @@ use Rattle.lie_script.proofs.CallerLemmas.{accepted-fits}
 use Rattle.lie_session.specs.DatumLines.{DatumLines, opened, with_root, with_coroot, is_whole}
 use Rattle.lie_session.specs.Faults.{field_refusal, datum_refusal, constants_refusal, signs_refusal, braid_refusal, orbit_refusal}
 use Rattle.lie_session.specs.Loaded.{IsBuilt, HasGroup, AnswersProduct, GroupsAreLoaded, MatricesAreProducts}
-use Rattle.lie_session.specs.Named.{Named, module_of, listed_of}
+use Rattle.lie_session.specs.Named.{Named, module_of, listed_of, HasDistinctNames}
 use Rattle.lie_session.specs.Output.{RepliesTo}
 use Rattle.lie_session.specs.Replies.{next_count, Refuses, Accepts, Answers, AnswersMatrix, KeepsField, KeepsDatum, ReadsDatum, LoadsBraids, LoadsSigns, LoadsGroup, NamesModule, NamesAdjoint, NamesOrbit, WithBoth, WithSigns, Does, Replies, line_refusal}
 use Rattle.lie_session.specs.State.{State, fresh, whole, wants_from, wants_of, dim_of, rank_of, count_of, order_of, sizes_of}
@@ -45,6 +45,7 @@ use Rattle.lie_session.specs.declared.datum.DatumStage.TheVariants as datum
 use Rattle.lie_session.specs.declared.mode.Mode.{Mode}
 use Rattle.lie_session.specs.declared.reply.Reply.{Reply}
 use Rattle.lie_session.proofs.ChangeLemmas.{IsSoundState, sound_from, in_datum}
+use Rattle.lie_session.proofs.NamedLemmas.{all_more, distinct_none, distinct_more}
 use Rattle.lie_session.proofs.StateLemmas.{free_from}
 use Rattle.lie_session.proofs.StatusLemmas.{kept_to}
 
@@ -104,11 +105,6 @@ with_group s P g h =
     MatchOption-at_some ⊥ (λ D. P g.field D) g.datum g.datum_is
     (MatchOption-at_some ⊥ (λ F. MatchOption (whole s.datum) ⊥ (λ D. P F D)) g.field g.field_is h)
 
--- one more that has P too
-all_more : {A : Type 0} (P : A → Type 0) (xs : List A) (x : A) → AllByRecursion P xs → P x → AllByRecursion P (xs ++ x ∷ [])
-all_more P [] x h last = (last, tt)
-all_more P (y ∷ ys) x h last = (h.0, all_more P ys x h.1 last)
-
 -- what has P has Q
 all_kept : {A : Type 0} (P Q : A → Type 0) → ((x : A) → P x → Q x) → (xs : List A) → AllByRecursion P xs → AllByRecursion Q xs
 all_kept P Q keeps [] h = tt
@@ -148,8 +144,8 @@ found_more modules name v free h =
 
 -- the same group, with these modules
 group_with : (s t : State) (g : HasGroup s) → t.field ≡ s.field → whole t.datum ≡ whole s.datum → t.signs ≡ s.signs
-    → AllByRecursion (λ e. IsBuilt g.datum g.signs e.1) t.modules → AreFound t.modules → HasGroup t
-group_with s t g field_is datum_is signs_are built found = record {
+    → AllByRecursion (λ e. IsBuilt g.datum g.signs e.1) t.modules → AreFound t.modules → HasDistinctNames t.modules → HasGroup t
+group_with s t g field_is datum_is signs_are built found distinct = record {
   field = g.field;
   datum = g.datum;
   signs = g.signs;
@@ -165,18 +161,19 @@ group_with s t g field_is datum_is signs_are built found = record {
   braids = g.braids;
   built = built;
   found = found;
+  distinct = distinct;
 }
 
 -- a refusal after `load`, and one before it
 counts : (s : State) → HasLoaded s → HasLoaded (record s { refusals = next_count s.refusals })
 counts s before = record {
-  group = λ is. group_with s (record s { refusals = next_count s.refusals }) (before.group is) refl refl refl (before.group is).built (before.group is).found;
+  group = λ is. group_with s (record s { refusals = next_count s.refusals }) (before.group is) refl refl refl (before.group is).built (before.group is).found (before.group is).distinct;
   unnamed = before.unnamed;
 }
 
 ends : (s : State) → HasLoaded s → HasLoaded (record s { ended = true })
 ends s before = record {
-  group = λ is. group_with s (record s { ended = true }) (before.group is) refl refl refl (before.group is).built (before.group is).found;
+  group = λ is. group_with s (record s { ended = true }) (before.group is) refl refl refl (before.group is).built (before.group is).found (before.group is).distinct;
   unnamed = before.unnamed;
 }
 
@@ -236,6 +233,7 @@ module _ (s : State) (n : ℕ) (reply : Reply) (next : State) (before : HasLoade
             braids = h.0;
             built = subst (AllByRecursion (λ e. IsBuilt D t e.1)) (sym (before.unnamed unloaded)) tt;
             found = subst AreFound (sym (before.unnamed unloaded)) tt;
+            distinct = subst HasDistinctNames (sym (before.unnamed unloaded)) distinct_none;
           };
           unnamed = λ is. absurd (false≢true (sym is));
         })
@@ -263,7 +261,8 @@ module _ (s : State) (n : ℕ) (reply : Reply) (next : State) (before : HasLoade
       subst HasLoaded (sym h.1) (record {
         group = λ _.
             group_with s (record s { modules = s.modules ++ (name, v) ∷ [] }) g refl refl refl
-            (all_more (λ e. IsBuilt g.datum g.signs e.1) s.modules (name, v) g.built built) (found_more s.modules name v new.free g.found);
+            (all_more (λ e. IsBuilt g.datum g.signs e.1) s.modules (name, v) g.built built) (found_more s.modules name v new.free g.found)
+            (distinct_more s.modules name v (free_from s.modules name new.free) g.distinct);
         unnamed = λ is. absurd (false≢true (sym is ∙ late));
       })
 

@@ -1,6 +1,6 @@
 -- What is awaited tells what a session holds.
 use Rattle.std.proofs.Common.{◌≡◌, ◌≢◌, ℕ, Bool, true, false, cond, Option, Some, None, refl, sym, ap, ◌∙◌, subst, arith, Result, Ok, Err, length, get_or, List, pos, zero, suc, negsuc, nat_abs}
-use Rattle.std.specs.Prelude.{⊤, bytes_eq, replicate, unsigned_abs, ◌-◌, ◌≤◌, ◌||◌, nat_lt, MatchResult, IfOk, ℤ}
+use Rattle.std.specs.Prelude.{⊤, bytes_eq, replicate, unsigned_abs, ◌-◌, ◌≤◌, ◌||◌, nat_lt, MatchResult, MatchOption, IfOk, ℤ}
 use Rattle.std.specs.List.{All}
 use Rattle.std.specs.Option.{IfSome, IsSome, IsSomeAnd}
 use Rattle.std.proofs.lemmas.Result.{IfOk-at_ok}
@@ -37,17 +37,18 @@ use Rattle.lie_script.specs.declared.line.Line.TheVariants as line
 use Rattle.lie_script.specs.declared.sizes.Wants.{Wants}
 use Rattle.lie_script.specs.declared.sizes.Wants.TheVariants as wants
 use Rattle.lie_script.proofs.CallerLemmas.{accepted-fits, answer-keeps}
-use Rattle.lie_reply.specs.Commands.{AreIndices}
+use Rattle.lie_reply.specs.Commands.{AreIndices, ConstantTextOf}
 use Rattle.lie_reply.specs.Forms.{frame_of}
 use Rattle.lie_script.specs.declared.sizes.Sizes.{Sizes}
 use Rattle.lie_session.specs.DatumLines.{DatumLines, opened, padded, with_root, with_coroot}
 use Rattle.lie_session.specs.Named.{Named, module_of, listed_of}
 use Rattle.lie_session.specs.Ready.{Holds, HasModules, Ready}
-use Rattle.lie_session.specs.Replies.{InDatum, ReadsDatum, Refuses, Does, Replies, line_refusal}
+use Rattle.lie_session.specs.Replies.{InDatum, ReadsDatum, Refuses, Does, Replies, line_refusal, WithBoth, AnswersConstant}
 use Rattle.lie_session.specs.State.{State, whole, wants_from, wants_of, dim_of, rank_of, count_of, order_of, sizes_of}
 use Rattle.lie_session.specs.declared.datum.DatumStage.{DatumStage}
 use Rattle.lie_session.specs.declared.datum.DatumStage.TheVariants as datum
 use Rattle.lie_session.specs.declared.reply.Reply.{Reply}
+use Rattle.lie_session.specs.declared.reply.Kind.TheVariants as kind
 
 field_fits : (field : Option FiniteField) → IfSome field (λ F. order F.given ≡ order_of field)
 field_fits None = tt
@@ -309,6 +310,18 @@ datum_held P stage D h stage_is = subst (λ (z : DatumStage). IsSomeAnd (whole z
 pub form_over : (s : State) (said : Line) (w : List Letter) (F : FiniteField) (D : RootDatum) (c : ConstantTable) → Ready s said → said ≡ line.Form w → s.field ≡ Some F → s.datum ≡ datum.Whole D → IsWordOver (frame_of F D c) w
 form_over s said w F D c ready says field_is datum_is =
     both_held (λ F D. (c : ConstantTable) → IsWordOver (frame_of F D c) w) s.field s.datum F D (subst (Ready s) says ready).1 field_is datum_is c
+
+-- with a field and a whole datum, what holds of both
+with_both : (s : State) (F : FiniteField) (D : RootDatum) (P : FiniteField → RootDatum → Type 0) → s.field ≡ Some F → s.datum ≡ datum.Whole D → P F D → WithBoth s P
+with_both s F D P field_is datum_is h =
+    subst (λ (o : Option FiniteField). MatchOption o ⊥ (λ F. MatchOption (whole s.datum) ⊥ (λ D. P F D))) (sym field_is)
+    (subst (λ (x : DatumStage). MatchOption (whole x) ⊥ (λ D. P F D)) (sym datum_is) h)
+
+-- the constant of two roots is answered
+pub does_constant : (s : State) (n : ℕ) (said : Line) (p q : ℤ) (F : FiniteField) (D : RootDatum) (text : List ℕ) (reply : Reply) → said ≡ line.Constant p q
+    → s.field ≡ Some F → s.datum ≡ datum.Whole D → ConstantTextOf D p q text → reply ≡ record { kind = kind.Answer; bytes = text } → Does s n said reply s
+does_constant s n said p q F D text reply says field_is datum_is is answered =
+    subst (λ (z : Line). Does s n z reply s) (sym says) (with_both s F D (λ F D. AnswersConstant s D p q reply s) field_is datum_is (text, is, (answered, refl)))
 
 -- the lines of a datum are opened
 pub does_datum : {E : Type 0} (s : State) (n d l : ℕ) (said : Line) (lines : DatumLines) (result : Result Reply E) (next : State) → said ≡ line.Datum d l → lines ≡ opened d l

@@ -1,5 +1,5 @@
 -- What a script has brought where a group is loaded, and what the replies to `matrix` are.
--- Source: Steinberg, Lectures on Chevalley groups (lattices with divided powers); Carter, Simple Groups of Lie Type, chapters 4 and 6.
+-- Source: Steinberg, Lectures on Chevalley Groups, 2 (lattices with divided powers); Carter, Simple Groups of Lie Type, 4.2 (structure constants) and chapter 6 (n_i).
 -- Own: the statements.
 --
 --   N_rs                     some table of constants loads      LoadsConstants
@@ -24,7 +24,7 @@ use Rattle.lie_script.specs.Reading.{reads}
 use Rattle.lie_script.specs.declared.line.Line.TheVariants as line
 use Rattle.lie_weight.specs.OrbitFaults.{LoadsOrbit}
 use Rattle.lie_session.specs.DatumLines.{padded}
-use Rattle.lie_session.specs.Named.{module_of, listed_of}
+use Rattle.lie_session.specs.Named.{module_of, listed_of, HasDistinctNames}
 use Rattle.lie_session.specs.Output.{RepliesTo}
 use Rattle.lie_session.specs.Replies.{Answers, Replies}
 use Rattle.lie_session.specs.State.{State, fresh, whole, wants_of, sizes_of}
@@ -36,7 +36,8 @@ abbrev pub IsBuilt : RootDatum → SignTable → Module → Type 0
 IsBuilt D t v = IsAdjointOf D v ⊎ ((w : List ℤ) × (length w ≡ D.base.dim) × LoadsOrbit D (eta_of t) (padded w) (Ok v))
 
 -- A group is loaded: of a field within the limits and a datum that meets the axioms, with constants; its signs are those of the
--- adjoint module, all as they should be, and their braid values are 1. Each named module is built from them, and its name finds it.
+-- adjoint module, all as they should be, and their braid values are 1. Each named module is built from them, its name finds it, and no two
+-- have one name.
 pub record HasGroup (s : State) : Type 0 where
   pub field : FiniteField
   pub datum : RootDatum
@@ -53,6 +54,7 @@ pub record HasGroup (s : State) : Type 0 where
   pub braids : HasBraids datum (eta_of signs)
   pub built : AllByRecursion (λ e. IsBuilt datum signs e.1) s.modules
   pub found : AllByRecursion (λ e. module_of s.modules e.0 ≡ Some e.1) s.modules
+  pub distinct : HasDistinctNames s.modules
 
 -- in each state that a script leads to, `loaded` says that there is a group, and before it no module has a name
 abbrev pub GroupsAreLoaded : Type 0

@@ -43,12 +43,14 @@ abbrev pub bytes_of : List Reply → List ℕ
 bytes_of [] = []
 bytes_of (reply ∷ replies) = reply.bytes ++ bytes_of replies
 
+-- whether a reply of this kind ends the session
 abbrev pub is_fatal : Kind → Bool
 is_fatal kind.Silent = false
 is_fatal kind.Answer = false
 is_fatal kind.Refused = false
 is_fatal kind.Fatal = true
 
+-- whether it is counted as a refusal
 abbrev pub is_refused : Kind → Bool
 is_refused kind.Silent = false
 is_refused kind.Answer = false

@@ -1,4 +1,5 @@
 -- What a session has where a line is awaited, so that it can do what the line says.
+-- For proofs: no public clause cites it.
 -- Own.
 use Rattle.std.specs.Prelude.{⊤, ◌≡◌, ◌≤◌, pos, true, false, length, Option, None, Ok}
 use Rattle.std.specs.List.{All, AllByRecursion}

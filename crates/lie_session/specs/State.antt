@@ -16,6 +16,7 @@ use Rattle.lie_session.specs.declared.datum.DatumStage.TheVariants as datum
 use Rattle.lie_session.specs.declared.status.Status.{Status}
 use Rattle.lie_session.specs.declared.status.Status.TheVariants.{Done, Refused, LoadRefused}
 
+-- a session between two lines
 pub record State : Type 0 where
   -- the field, once it was accepted
   pub field : Option FiniteField

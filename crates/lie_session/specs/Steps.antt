@@ -1,4 +1,5 @@
 -- What the steps of a run leave: reading, writing, and one reply.
+-- For proofs: no public clause cites it.
 -- Own.
 use Rattle.std.specs.Prelude.{◌≡◌, ◌⊎◌, ℕ, ◌+◌, ◌≤◌, List, ◌++◌, length, Option, Result, Ok, Err}
 use Rattle.lie_kit.specs.Streams.{Rose, with_bytes}

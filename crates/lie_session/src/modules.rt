@@ -1,7 +1,9 @@
 //! The named modules of a loaded group.
-ghost use Rattle.std.specs.Prelude.{◌≡◌, ◌∷◌, ◌++◌, [], None, OnOk, OnErr};
+ghost use Rattle.std.specs.Prelude.{◌≡◌, ◌∷◌, ◌++◌, [], None, OnOk, OnErr, bytes_eq};
 ghost use Rattle.std.specs.Option.{option_copied};
-ghost use Rattle.lie_session.specs.Named.{module_of, listed_of};
+ghost use Rattle.std.specs.List.{IsDistinct-prop};
+ghost use Rattle.std.specs.Map.{keys_of};
+ghost use Rattle.lie_session.specs.Named.{named_of, module_of, listed_of, HasDistinctNames};
 
 use indexmap::IndexMap;
 use lie_script::Names;
@@ -13,20 +15,23 @@ use std::marker::Model;
 #[derive(Drop)]
 pub(crate) struct Modules {
     table: IndexMap<Vec<u8>, Module>,
+    ghost distinct: { HasDistinctNames (named_of table.entries) } by { IsDistinct-prop bytes_eq (keys_of (named_of table.entries)) },
 }
 
 impl Model for Modules {
-    ghost use Rattle.lie_session.specs.Named.{Named, named_of};
+    ghost use Rattle.lie_session.specs.Named.{NamedModules, named_code, named_of};
 
-    ghost Value = { Named };
+    ghost Value = { NamedModules };
 
-    ghost view = { λ m. named_of m.table.entries };
+    ghost coded = { named_code };
+
+    ghost view = { λ m. record { entries = named_of m.table.entries; distinct = m.distinct } };
 }
 
 impl Modules {
     /// No modules. It takes no memory.
     pub(crate) fn new(alloc: Global) -> Modules
-        ensures { result ≡ [] }
+        ensures { result.entries ≡ [] }
     {
         Modules {
             table: IndexMap::new(alloc),
@@ -40,8 +45,8 @@ impl Modules {
         name: &[u8],
         module: Module,
     ) -> Result<(), AllocError>
-        requires { module_of self.old name.now ≡ None }
-        ensures pushed { OnOk result (self.new ≡ self.old ++ (name.now, «module») ∷ []) }
+        requires { module_of self.old.entries name.now ≡ None }
+        ensures pushed { OnOk result (self.new.entries ≡ self.old.entries ++ (name.now, «module») ∷ []) }
         ensures left { OnErr result (self.new ≡ self.old) }
     {
         let name = Vec::from_slice(alloc, name)?;
@@ -52,14 +57,18 @@ impl Modules {
     /// The module of a name.
     #[tactic(auto, using(crate::proofs::NamedLemmas::named_module))]
     pub(crate) fn find(&self, name: &[u8]) -> Option<&Module>
-        ensures { option_copied result ≡ module_of self.now name.now }
+        ensures { option_copied result ≡ module_of self.now.entries name.now }
     {
         self.table.get(name)
     }
 }
 
 impl Names for Modules {
-    ghost listed = { listed_of };
+    ghost use Rattle.lie_session.specs.Named.{listed_distinct};
+
+    ghost listed = { λ m. listed_of m.entries };
+
+    ghost distinct = { λ m. listed_distinct m.entries m.distinct };
 
     fn dim_of(&self, name: &[u8]) -> Option<usize> {
         match self.find(name) {

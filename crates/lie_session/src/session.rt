@@ -97,10 +97,10 @@ impl Model for Session {
 
     ghost Value = { State };
 
-    ghost view = { λ s. record { field = s.field; datum = s.datum; loaded = s.loaded; signs = s.signs; modules = s.modules; refusals = s.refusals; ended = s.ended } };
+    ghost view = { λ s. record { field = s.field; datum = s.datum; loaded = s.loaded; signs = s.signs; modules = s.modules.entries; refusals = s.refusals; ended = s.ended } };
 
     ghost invariant = { λ s. (s.loaded ≡ true → IsSome s.field × IsSome (whole s.datum)) × (s.loaded ≡ true → HasConstants s.datum s.constants)
-        × (s.loaded ≡ true → HasSigns s.datum s.signs) × (s.loaded ≡ true → HasModules s.datum s.modules) × (s.loaded ≡ false → s.modules ≡ []) };
+        × (s.loaded ≡ true → HasSigns s.datum s.signs) × (s.loaded ≡ true → HasModules s.datum s.modules.entries) × (s.loaded ≡ false → s.modules.entries ≡ []) };
 }
 
 impl Session {

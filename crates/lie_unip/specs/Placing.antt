@@ -81,6 +81,12 @@ AreRows terms ks rows = (p : ℕ) → p < length rows → IsRow terms (slice_ind
 abbrev pub ZeroFrom : {A : Type 0} → RingOn A → ℕ → List A → Type 0
 ZeroFrom R i c = (j : ℕ) → i ≤ j → slice_index_or c j R.zero ≡ R.zero
 
+-- the elements of a sorted word at n roots, of which those from the end on are 0
+pub record IsSortedWord {A : Type 0} (R : RingOn A) (n end : ℕ) (c : List A) : Type 0 where
+  pub entries : AreEntries R n c
+  pub within : end ≤ n
+  pub zeros : ZeroFrom R end c
+
 -- the letter at r and a has passed place i, whose letter and terms join those still to be placed
 pub record IsLifted {A : Type 0} (R : RingOn A) (terms : ℕ → ℕ → List CommutatorTerm) (m : ℕ) (kept : ℕ → Bool) (ks : List ℕ) (r : ℕ) (a : A) (i : ℕ) (c d : List A) (w v : List (RingLetter A)) : Type 0 where
   pub entries : d ≡ set c i R.zero

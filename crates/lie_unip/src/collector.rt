@@ -1,19 +1,20 @@
 //! Collecting letters into a sorted word.
 
-ghost use Rattle.std.specs.Prelude.{◌≡◌, ℕ, ◌+◌, ◌<◌, ◌≤◌, ◌++◌, ◌≢◌, Bool, true, List, length, map, reverse, pos, slice_index_or, OnOk, IfOk, IsTrue, ◌↔◌, []};
+ghost use Rattle.std.specs.Prelude.{◌≡◌, ℕ, ◌+◌, ◌<◌, ◌≤◌, ◌++◌, ◌≢◌, Bool, true, List, length, map, reverse, pos, slice_index_or, OnOk, IfOk, IsTrue, ◌↔◌, [], ◌∷◌};
 ghost use Rattle.lie_ring.specs.Rings.{RingOn, Fits};
 ghost use Rattle.lie_const.specs.ConstantTables.{terms_of};
 ghost use Rattle.lie_letters.specs.RingLetters.{IsRingWord};
 ghost use Rattle.lie_unip.specs.Collection.{AreEntries, IsCollected, elements};
 ghost use Rattle.lie_letters.specs.PositiveTerms.{positive_terms};
 ghost use Rattle.lie_unip.specs.Splitting.{kept_at, kept_first};
-ghost use Rattle.lie_unip.specs.Placing.{IsCollector, letters_at, crossing, terms_between, AreRows, IdleBetween, ZeroFrom, IsLifted, AreLifted, IsPlaced};
+ghost use Rattle.lie_unip.specs.OneProof.{IsCollector-prop};
+ghost use Rattle.lie_unip.specs.Placing.{IsCollector, AreRoots, letters_at, crossing, terms_between, AreRows, IdleBetween, IsSortedWord, IsLifted, AreLifted, IsPlaced};
 
 use crate::rows::Row;
 use crate::terms::{put_inverse_terms, put_terms};
 use lie_const::{Constants, Term};
 use lie_datum::RootId;
-use lie_ring::{Ring, roomy_add, roomy_copy, roomy_neg};
+use lie_ring::{Ring, roomy_add, roomy_copy};
 use std::alloc::{AllocError, Global};
 use std::mem;
 
@@ -33,12 +34,12 @@ pub(crate) struct Collector<'a, R: Ring> {
     pub(crate) roots: Vec<usize>,
     /// At place k - 1, the place of the k-th root in that order.
     pub(crate) places: Vec<usize>,
+    ghost lawful: { IsCollector (R.ring ring.now) zero consts.now kept.items roots.items places.items } by { IsCollector-prop R.Elem.code (R.ring ring.now) zero consts.now kept.items roots.items places.items },
 }
 
 impl<'a, R: Ring> Collector<'a, R> {
     /// The terms of two positive roots, the one before the other.
     fn terms(&self, r: usize, s: usize) -> &[Term]
-        requires lawful { IsCollector (R.ring self.now.ring.now) self.now.zero self.now.consts.now self.now.kept.items self.now.roots.items self.now.places.items }
         requires first { 1 ≤ r }
         requires order { r < s }
         requires last { s ≤ self.now.consts.now.positive }
@@ -49,12 +50,8 @@ impl<'a, R: Ring> Collector<'a, R> {
     }
 
     /// Whether two roots, the one or the other first, have no terms.
-    pub(crate) fn commute(&self, r: usize, s: usize) -> bool
-        requires lawful { IsCollector (R.ring self.now.ring.now) self.now.zero self.now.consts.now self.now.kept.items self.now.roots.items self.now.places.items }
-        requires r { 1 ≤ r }
-        requires r_last { r ≤ self.now.consts.now.positive }
-        requires s { 1 ≤ s }
-        requires s_last { s ≤ self.now.consts.now.positive }
+    fn have_none(&self, r: usize, s: usize) -> bool
+        requires roots { AreRoots self.now.consts.now.positive (r ∷ s ∷ []) }
         requires other { r ≢ s }
         ensures { IsTrue result ↔ (terms_between (positive_terms self.now.consts.now) r s ≡ []) }
     {
@@ -66,9 +63,19 @@ impl<'a, R: Ring> Collector<'a, R> {
         terms.is_empty()
     }
 
+    /// Whether the roots of two places have no terms.
+    pub(crate) fn commute(&self, at: usize, k: usize) -> bool
+        requires order { at < k }
+        requires within { k < length self.now.roots.items }
+        ensures { IsTrue result ↔ (terms_between (positive_terms self.now.consts.now) (slice_index_or self.now.roots.items at 0) (slice_index_or self.now.roots.items k 0) ≡ []) }
+    {
+        let r = self.root(at);
+        let s = self.root(k);
+        self.have_none(r, s)
+    }
+
     /// The root at a place of the sorted word.
     pub(crate) fn root(&self, at: usize) -> usize
-        requires lawful { IsCollector (R.ring self.now.ring.now) self.now.zero self.now.consts.now self.now.kept.items self.now.roots.items self.now.places.items }
         requires at { at < length self.now.roots.items }
         ensures value { result ≡ slice_index_or self.now.roots.items at 0 }
         ensures low { 1 ≤ result }
@@ -79,10 +86,8 @@ impl<'a, R: Ring> Collector<'a, R> {
 
     /// The first place from which on all elements are 0.
     fn end_of(&self, entries: &[R::Elem]) -> usize
-        requires lawful { IsCollector (R.ring self.now.ring.now) self.now.zero self.now.consts.now self.now.kept.items self.now.roots.items self.now.places.items }
         requires entries { AreEntries (R.ring self.now.ring.now) (length self.now.roots.items) entries.now }
-        ensures within { result ≤ length self.now.roots.items }
-        ensures zeros { ZeroFrom (R.ring self.now.ring.now) result entries.now }
+        ensures { IsSortedWord (R.ring self.now.ring.now) (length self.now.roots.items) result entries.now }
     {
         for k in (0..entries.len()).rev() {
             if !self.ring.same(&entries[k], &self.zero) {
@@ -95,18 +100,15 @@ impl<'a, R: Ring> Collector<'a, R> {
     /// The first place behind that of a root, up to `end`, whose element isn't 0 and whose root has
     /// terms with it.
     pub(crate) fn first_behind(&self, entries: &[R::Elem], at: usize, end: usize) -> usize
-        requires lawful { IsCollector (R.ring self.now.ring.now) self.now.zero self.now.consts.now self.now.kept.items self.now.roots.items self.now.places.items }
-        requires entries { AreEntries (R.ring self.now.ring.now) (length self.now.roots.items) entries.now }
+        requires word { IsSortedWord (R.ring self.now.ring.now) (length self.now.roots.items) end entries.now }
         requires at { at < end }
-        requires end { end ≤ length self.now.roots.items }
         ensures after { at < result }
         ensures within { result ≤ end }
         ensures bound { result ≤ length self.now.roots.items }
         ensures idle { IdleBetween (R.ring self.now.ring.now) (positive_terms self.now.consts.now) (slice_index_or self.now.roots.items at 0) self.now.roots.items (at + 1) result entries.now }
     {
-        let root = self.root(at);
         for k in at + 1..end {
-            if !self.ring.same(&entries[k], &self.zero) && !self.commute(root, self.root(k)) {
+            if !self.ring.same(&entries[k], &self.zero) && !self.commute(at, k) {
                 return k;
             }
         }
@@ -119,30 +121,20 @@ impl<'a, R: Ring> Collector<'a, R> {
         &self,
         root: usize,
         a: &R::Elem,
-        minus: &R::Elem,
         k: usize,
         x: &R::Elem,
         todo: &mut Vec<(usize, R::Elem)>,
     ) -> Result<(), AllocError>
-        requires lawful { IsCollector (R.ring self.now.ring.now) self.now.zero self.now.consts.now self.now.kept.items self.now.roots.items self.now.places.items }
-        requires low { 1 ≤ root }
-        requires high { root ≤ self.now.consts.now.positive }
-        requires k_low { 1 ≤ k }
-        requires k_high { k ≤ self.now.consts.now.positive }
+        requires letters { IsRingWord (R.ring self.now.ring.now) self.now.consts.now.positive ((root, a.now) ∷ (k, x.now) ∷ []) }
         requires other { root ≢ k }
-        requires a { Fits (R.ring self.now.ring.now) a.now }
-        requires minus { minus.now ≡ (R.ring self.now.ring.now).neg a.now }
-        requires minus_fits { Fits (R.ring self.now.ring.now) minus.now }
-        requires x { Fits (R.ring self.now.ring.now) x.now }
-        ensures { OnOk result (reverse todo.new.items ≡ crossing (R.ring self.now.ring.now) (positive_terms self.now.consts.now) root a.now (record { 0 = k; 1 = x.now }) ++ reverse todo.old.items) }
+        ensures { OnOk result (reverse todo.new.items ≡ crossing (R.ring self.now.ring.now) (positive_terms self.now.consts.now) root a.now (k, x.now) ++ reverse todo.old.items) }
     {
         if root < k {
             let terms = self.terms(root, k);
-            put_terms(self.ring, self.alloc, terms, a, minus, x, todo)
+            put_terms(self.ring, self.alloc, terms, a, x, todo)
         } else {
             let terms = self.terms(k, root);
-            let minus_x = roomy_neg(self.ring, self.alloc, x)?;
-            put_inverse_terms(self.ring, self.alloc, terms, x, &minus_x, a, todo)
+            put_inverse_terms(self.ring, self.alloc, terms, x, a, todo)
         }
     }
 
@@ -154,17 +146,10 @@ impl<'a, R: Ring> Collector<'a, R> {
         place: usize,
         at: usize,
         a: &R::Elem,
-        minus: &R::Elem,
     ) -> Result<(), AllocError>
-        requires lawful { IsCollector (R.ring self.now.ring.now) self.now.zero self.now.consts.now self.now.kept.items self.now.roots.items self.now.places.items }
-        requires entries { AreEntries (R.ring self.now.ring.now) (length self.now.roots.items) entries.old.items }
-        requires todo { IsRingWord (R.ring self.now.ring.now) self.now.consts.now.positive (reverse todo.old.items) }
-        requires last_one { ZeroFrom (R.ring self.now.ring.now) (place + 1) entries.old.items }
+        requires word { IsSortedWord (R.ring self.now.ring.now) (length self.now.roots.items) (place + 1) entries.old.items }
+        requires todo { IsRingWord (R.ring self.now.ring.now) self.now.consts.now.positive ((slice_index_or self.now.roots.items at 0, a.now) ∷ reverse todo.old.items) }
         requires later { at < place }
-        requires within { place < length self.now.roots.items }
-        requires a { Fits (R.ring self.now.ring.now) a.now }
-        requires minus { minus.now ≡ (R.ring self.now.ring.now).neg a.now }
-        requires minus_fits { Fits (R.ring self.now.ring.now) minus.now }
         ensures { OnOk result (IsLifted (R.ring self.now.ring.now) (positive_terms self.now.consts.now) self.now.consts.now.positive (kept_at self.now.kept.items) self.now.roots.items (slice_index_or self.now.roots.items at 0) a.now place entries.old.items entries.new.items todo.old.items todo.new.items) }
     {
         if self.ring.same(&entries[place], &self.zero) {
@@ -174,7 +159,7 @@ impl<'a, R: Ring> Collector<'a, R> {
         let x = mem::replace(&mut entries[place], empty);
         let root = self.root(at);
         let k = self.root(place);
-        self.cross(root, a, minus, k, &x, todo)?;
+        self.cross(root, a, k, &x, todo)?;
         todo.push((k, x))?;
         Ok(())
     }
@@ -190,19 +175,13 @@ impl<'a, R: Ring> Collector<'a, R> {
         at: usize,
         a: &R::Elem,
     ) -> Result<(), AllocError>
-        requires lawful { IsCollector (R.ring self.now.ring.now) self.now.zero self.now.consts.now self.now.kept.items self.now.roots.items self.now.places.items }
-        requires entries { AreEntries (R.ring self.now.ring.now) (length self.now.roots.items) entries.old.items }
-        requires todo { IsRingWord (R.ring self.now.ring.now) self.now.consts.now.positive (reverse todo.old.items) }
-        requires later { at < first }
-        requires order { first ≤ end }
-        requires within { end ≤ length self.now.roots.items }
-        requires zeros { ZeroFrom (R.ring self.now.ring.now) end entries.old.items }
-        requires a { Fits (R.ring self.now.ring.now) a.now }
+        requires word { IsSortedWord (R.ring self.now.ring.now) (length self.now.roots.items) end entries.old.items }
+        requires todo { IsRingWord (R.ring self.now.ring.now) self.now.consts.now.positive ((slice_index_or self.now.roots.items at 0, a.now) ∷ reverse todo.old.items) }
+        requires later { (at < first) × (first ≤ end) }
         ensures { OnOk result (AreLifted (R.ring self.now.ring.now) (positive_terms self.now.consts.now) self.now.consts.now.positive (kept_at self.now.kept.items) self.now.roots.items (slice_index_or self.now.roots.items at 0) a.now first entries.old.items entries.new.items todo.old.items todo.new.items) }
     {
-        let minus = roomy_neg(self.ring, self.alloc, a)?;
         for place in (first..end).rev() {
-            self.lift_one(entries, todo, place, at, a, &minus)?;
+            self.lift_one(entries, todo, place, at, a)?;
         }
         Ok(())
     }
@@ -218,17 +197,10 @@ impl<'a, R: Ring> Collector<'a, R> {
         root: usize,
         a: &R::Elem,
     ) -> Result<usize, AllocError>
-        requires lawful { IsCollector (R.ring self.now.ring.now) self.now.zero self.now.consts.now self.now.kept.items self.now.roots.items self.now.places.items }
-        requires entries { AreEntries (R.ring self.now.ring.now) (length self.now.roots.items) entries.old.items }
-        requires todo { IsRingWord (R.ring self.now.ring.now) self.now.consts.now.positive (reverse todo.old.items) }
-        requires low { 1 ≤ root }
-        requires high { root ≤ self.now.consts.now.positive }
-        requires a { Fits (R.ring self.now.ring.now) a.now }
+        requires word { IsSortedWord (R.ring self.now.ring.now) (length self.now.roots.items) end entries.old.items }
+        requires todo { IsRingWord (R.ring self.now.ring.now) self.now.consts.now.positive ((root, a.now) ∷ reverse todo.old.items) }
         requires rows { AreRows (positive_terms self.now.consts.now) self.now.roots.items rows.now }
-        requires within { end ≤ length self.now.roots.items }
-        requires zeros { ZeroFrom (R.ring self.now.ring.now) end entries.old.items }
-        ensures within { IfOk result (λ n. n ≤ length self.now.roots.items) }
-        ensures zeros { IfOk result (λ n. ZeroFrom (R.ring self.now.ring.now) n entries.new.items) }
+        ensures word { IfOk result (λ n. IsSortedWord (R.ring self.now.ring.now) (length self.now.roots.items) n entries.new.items) }
         ensures placed { OnOk result (IsPlaced (R.ring self.now.ring.now) (positive_terms self.now.consts.now) self.now.consts.now.positive (kept_at self.now.kept.items) self.now.roots.items root a.now entries.old.items entries.new.items todo.old.items todo.new.items) }
     {
         if self.ring.same(a, &self.zero) {
@@ -249,7 +221,6 @@ impl<'a, R: Ring> Collector<'a, R> {
         entries: &mut Vec<R::Elem>,
         todo: Vec<(usize, R::Elem)>,
     ) -> Result<(), AllocError>
-        requires lawful { IsCollector (R.ring self.now.ring.now) self.now.zero self.now.consts.now self.now.kept.items self.now.roots.items self.now.places.items }
         requires entries { AreEntries (R.ring self.now.ring.now) (length self.now.roots.items) entries.old.items }
         requires todo { IsRingWord (R.ring self.now.ring.now) self.now.consts.now.positive (reverse todo.items) }
         ensures entries { OnOk result (AreEntries (R.ring self.now.ring.now) (length self.now.roots.items) entries.new.items) }

@@ -9,10 +9,11 @@ ghost use Rattle.lie_const.specs.ConstantTables.{LoadsConstants};
 ghost use Rattle.lie_letters.specs.RingLetters.{full_word, IsRingWord};
 ghost use Rattle.lie_letters.specs.PositiveTerms.{positive_terms};
 ghost use Rattle.lie_unip.specs.Collection.{AreEntries, IsCollected, elements};
-ghost use Rattle.lie_unip.specs.Splitting.{kept_at, kept_by, chosen};
-ghost use Rattle.lie_unip.specs.Placing.{IsCollector, AreRoots, group_from, letters_at};
+ghost use Rattle.lie_unip.specs.Splitting.{IsSplit, kept_at, kept_by, chosen};
+ghost use Rattle.lie_unip.specs.Placing.{AreRoots, group_from, letters_at};
 
 use crate::collector::Collector;
+use crate::lists::{letters, zeros};
 use lie_const::Constants;
 use lie_datum::{Datum, RootId};
 use lie_ring::{Ring, roomy_copy, roomy_zero};
@@ -29,7 +30,6 @@ impl<'a, R: Ring> Collector<'a, R> {
     ) -> Result<Collector<'a, R>, AllocError>
         requires roomy { IsTrue (R.ring ring.now).roomy }
         requires constants { LoadsConstants datum.now (Ok consts.now) }
-        ensures lawful { IfOk result (λ c. IsCollector (R.ring ring.now) c.zero consts.now c.kept.items c.roots.items c.places.items) }
         ensures ring { IfOk result (λ c. c.ring.now ≡ ring.now) }
         ensures consts { IfOk result (λ c. c.consts.now ≡ consts.now) }
         ensures kept { IfOk result (λ c. c.kept.items ≡ []) }
@@ -66,7 +66,6 @@ impl<'a, R: Ring> Collector<'a, R> {
         requires roomy { IsTrue (R.ring ring.now).roomy }
         requires constants { LoadsConstants datum.now (Ok consts.now) }
         requires element { IsElement datum.now w.now }
-        ensures lawful { IfOk result (λ c. IsCollector (R.ring ring.now) c.zero consts.now c.kept.items c.roots.items c.places.items) }
         ensures ring { IfOk result (λ c. c.ring.now ≡ ring.now) }
         ensures consts { IfOk result (λ c. c.consts.now ≡ consts.now) }
         ensures count { IfOk result (λ c. length c.kept.items ≡ consts.now.positive) }
@@ -99,7 +98,6 @@ impl<'a, R: Ring> Collector<'a, R> {
         k: usize,
         first: bool,
     ) -> Result<R::Elem, AllocError>
-        requires lawful { IsCollector (R.ring self.now.ring.now) self.now.zero self.now.consts.now self.now.kept.items self.now.roots.items self.now.places.items }
         requires count { length self.now.kept.items ≡ self.now.consts.now.positive }
         requires entries { AreEntries (R.ring self.now.ring.now) (length self.now.roots.items) entries.now }
         requires k { k < self.now.consts.now.positive }
@@ -118,7 +116,6 @@ impl<'a, R: Ring> Collector<'a, R> {
     /// The elements at the roots of the first group, or of the other one, and 0 elsewhere, in the
     /// order of the numbers.
     pub(crate) fn part(&self, entries: &[R::Elem], first: bool) -> Result<Vec<R::Elem>, AllocError>
-        requires lawful { IsCollector (R.ring self.now.ring.now) self.now.zero self.now.consts.now self.now.kept.items self.now.roots.items self.now.places.items }
         requires count { length self.now.kept.items ≡ self.now.consts.now.positive }
         requires entries { AreEntries (R.ring self.now.ring.now) (length self.now.roots.items) entries.now }
         ensures entries { IfOk result (λ v. AreEntries (R.ring self.now.ring.now) self.now.consts.now.positive v.items) }
@@ -131,6 +128,25 @@ impl<'a, R: Ring> Collector<'a, R> {
             part.push(element)?;
         }
         Ok(part)
+    }
+
+    /// The full word of the elements collected, and cut between the two groups.
+    pub(crate) fn split(
+        &self,
+        entries: &[R::Elem],
+    ) -> Result<(Vec<R::Elem>, Vec<R::Elem>), AllocError>
+        requires count { length self.now.kept.items ≡ self.now.consts.now.positive }
+        requires entries { AreEntries (R.ring self.now.ring.now) self.now.consts.now.positive entries.now }
+        ensures first { IfOk result (λ p. AreEntries (R.ring self.now.ring.now) self.now.consts.now.positive p.0.items) }
+        ensures second { IfOk result (λ p. AreEntries (R.ring self.now.ring.now) self.now.consts.now.positive p.1.items) }
+        ensures split { IfOk result (λ p. IsSplit (R.ring self.now.ring.now) (positive_terms self.now.consts.now) self.now.consts.now.positive (kept_at self.now.kept.items) entries.now p.0.items p.1.items) }
+    {
+        let mut sorted = zeros(self.ring, self.alloc, self.roots.len())?;
+        let todo = letters(self.ring, self.alloc, entries)?;
+        self.collect(&mut sorted, todo)?;
+        let first = self.part(&sorted, true)?;
+        let second = self.part(&sorted, false)?;
+        Ok((first, second))
     }
 }
 

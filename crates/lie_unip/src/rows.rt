@@ -3,8 +3,7 @@
 ghost use Rattle.std.specs.Prelude.{◌≡◌, ◌+◌, ◌<◌, ◌≤◌, List, length, slice_index_or, IfOk, OnOk};
 ghost use Rattle.lie_ring.specs.Rings.{RingOn};
 ghost use Rattle.lie_letters.specs.PositiveTerms.{positive_terms};
-ghost use Rattle.lie_unip.specs.Collection.{AreEntries};
-ghost use Rattle.lie_unip.specs.Placing.{IsCollector, IsRow, AreRows, IdleBetween};
+ghost use Rattle.lie_unip.specs.Placing.{IsRow, AreRows, IdleBetween, IsSortedWord};
 
 use crate::collector::Collector;
 use lie_ring::Ring;
@@ -40,15 +39,12 @@ impl Row {
 impl<'a, R: Ring> Collector<'a, R> {
     /// Puts a place on the row of another, if their roots have terms.
     fn push_met(&self, places: &mut Vec<usize>, at: usize, k: usize) -> Result<(), AllocError>
-        requires lawful { IsCollector (R.ring self.now.ring.now) self.now.zero self.now.consts.now self.now.kept.items self.now.roots.items self.now.places.items }
         requires at { at < k }
         requires k { k < length self.now.roots.items }
         ensures { OnOk result (IsRow (positive_terms self.now.consts.now) (slice_index_or self.now.roots.items at 0) self.now.roots.items (at + 1) k places.old.items
             → IsRow (positive_terms self.now.consts.now) (slice_index_or self.now.roots.items at 0) self.now.roots.items (at + 1) (k + 1) places.new.items) }
     {
-        let root = self.root(at);
-        let other = self.root(k);
-        if self.commute(root, other) {
+        if self.commute(at, k) {
             return Ok(());
         }
         places.push(k)?;
@@ -57,7 +53,6 @@ impl<'a, R: Ring> Collector<'a, R> {
 
     /// The later places whose roots have terms with the root of a place.
     fn row(&self, at: usize) -> Result<Row, AllocError>
-        requires lawful { IsCollector (R.ring self.now.ring.now) self.now.zero self.now.consts.now self.now.kept.items self.now.roots.items self.now.places.items }
         requires at { at < length self.now.roots.items }
         ensures { IfOk result (IsRow (positive_terms self.now.consts.now) (slice_index_or self.now.roots.items at 0) self.now.roots.items (at + 1) (length self.now.roots.items)) }
     {
@@ -70,7 +65,6 @@ impl<'a, R: Ring> Collector<'a, R> {
 
     /// A row for each place, where many letters are to be placed in a long word, and else none.
     pub(crate) fn rows(&self, letters: usize) -> Result<Vec<Row>, AllocError>
-        requires lawful { IsCollector (R.ring self.now.ring.now) self.now.zero self.now.consts.now self.now.kept.items self.now.roots.items self.now.places.items }
         ensures { IfOk result (λ v. AreRows (positive_terms self.now.consts.now) self.now.roots.items v.items) }
     {
         let mut rows = Vec::new(self.alloc);
@@ -93,11 +87,9 @@ impl<'a, R: Ring> Collector<'a, R> {
         at: usize,
         end: usize,
     ) -> usize
-        requires lawful { IsCollector (R.ring self.now.ring.now) self.now.zero self.now.consts.now self.now.kept.items self.now.roots.items self.now.places.items }
         requires rows { AreRows (positive_terms self.now.consts.now) self.now.roots.items rows.now }
-        requires entries { AreEntries (R.ring self.now.ring.now) (length self.now.roots.items) entries.now }
+        requires word { IsSortedWord (R.ring self.now.ring.now) (length self.now.roots.items) end entries.now }
         requires at { at < end }
-        requires end { end ≤ length self.now.roots.items }
         ensures after { at < result }
         ensures within { result ≤ end }
         ensures bound { result ≤ length self.now.roots.items }
@@ -112,11 +104,9 @@ impl<'a, R: Ring> Collector<'a, R> {
 
     /// The first place of the row of a root, up to `end`, whose element isn't 0.
     fn first_of_row(&self, row: &[usize], entries: &[R::Elem], at: usize, end: usize) -> usize
-        requires lawful { IsCollector (R.ring self.now.ring.now) self.now.zero self.now.consts.now self.now.kept.items self.now.roots.items self.now.places.items }
         requires row { IsRow (positive_terms self.now.consts.now) (slice_index_or self.now.roots.items at 0) self.now.roots.items (at + 1) (length self.now.roots.items) row.now }
-        requires entries { AreEntries (R.ring self.now.ring.now) (length self.now.roots.items) entries.now }
+        requires word { IsSortedWord (R.ring self.now.ring.now) (length self.now.roots.items) end entries.now }
         requires at { at < end }
-        requires end { end ≤ length self.now.roots.items }
         ensures after { at < result }
         ensures within { result ≤ end }
         ensures bound { result ≤ length self.now.roots.items }

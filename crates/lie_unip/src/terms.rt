@@ -43,21 +43,22 @@ fn scaled<R: Ring>(ring: &R, alloc: Global, value: i128, a: R::Elem) -> Result<R
     roomy_mul(ring, alloc, &factor, &a)
 }
 
-/// The element of a term, where `minus` is the negative of t.
+/// The element of a term.
 fn term_value<R: Ring>(
     ring: &R,
     alloc: Global,
     term: &Term,
-    minus: &R::Elem,
+    t: &R::Elem,
     u: &R::Elem,
 ) -> Result<R::Elem, AllocError>
     requires roomy { IsTrue (R.ring ring.now).roomy }
-    requires minus { Fits (R.ring ring.now) minus.now }
+    requires t { Fits (R.ring ring.now) t.now }
     requires u { Fits (R.ring ring.now) u.now }
-    ensures value { IfOk result (λ x. x ≡ (R.ring ring.now).mul ((R.ring ring.now).of_int term.now.value) ((R.ring ring.now).mul (power (R.ring ring.now) minus.now term.now.i) (power (R.ring ring.now) u.now term.now.j))) }
+    ensures value { IfOk result (λ x. x ≡ (R.ring ring.now).mul ((R.ring ring.now).of_int term.now.value) ((R.ring ring.now).mul (power (R.ring ring.now) ((R.ring ring.now).neg t.now) term.now.i) (power (R.ring ring.now) u.now term.now.j))) }
     ensures fits { IfOk result (Fits (R.ring ring.now)) }
 {
-    let first = power(ring, alloc, minus, term.i)?;
+    let minus = roomy_neg(ring, alloc, t)?;
+    let first = power(ring, alloc, &minus, term.i)?;
     let second = power(ring, alloc, u, term.j)?;
     let both = roomy_mul(ring, alloc, &first, &second)?;
     scaled(ring, alloc, term.value, both)
@@ -69,19 +70,17 @@ pub(crate) fn put_terms<R: Ring>(
     alloc: Global,
     terms: &[Term],
     t: &R::Elem,
-    minus: &R::Elem,
     u: &R::Elem,
     todo: &mut Vec<(usize, R::Elem)>,
 ) -> Result<(), AllocError>
     requires roomy { IsTrue (R.ring ring.now).roomy }
-    requires minus { minus.now ≡ (R.ring ring.now).neg t.now }
-    requires minus_fits { Fits (R.ring ring.now) minus.now }
+    requires t { Fits (R.ring ring.now) t.now }
     requires u { Fits (R.ring ring.now) u.now }
     ensures { OnOk result (reverse todo.new.items ≡ term_word (R.ring ring.now) (map positive_term terms.now) t.now u.now ++ reverse todo.old.items) }
 {
     for k in (0..terms.len()).rev() {
         let term = &terms[k];
-        let value = term_value(ring, alloc, term, minus, u)?;
+        let value = term_value(ring, alloc, term, t, u)?;
         todo.push((number(term), value))?;
     }
     Ok(())
@@ -93,19 +92,17 @@ pub(crate) fn put_inverse_terms<R: Ring>(
     alloc: Global,
     terms: &[Term],
     t: &R::Elem,
-    minus: &R::Elem,
     u: &R::Elem,
     todo: &mut Vec<(usize, R::Elem)>,
 ) -> Result<(), AllocError>
     requires roomy { IsTrue (R.ring ring.now).roomy }
-    requires minus { minus.now ≡ (R.ring ring.now).neg t.now }
-    requires minus_fits { Fits (R.ring ring.now) minus.now }
+    requires t { Fits (R.ring ring.now) t.now }
     requires u { Fits (R.ring ring.now) u.now }
     ensures { OnOk result (reverse todo.new.items ≡ inverse_word (R.ring ring.now) (term_word (R.ring ring.now) (map positive_term terms.now) t.now u.now) ++ reverse todo.old.items) }
 {
     for k in 0..terms.len() {
         let term = &terms[k];
-        let value = term_value(ring, alloc, term, minus, u)?;
+        let value = term_value(ring, alloc, term, t, u)?;
         let inverse = roomy_neg(ring, alloc, &value)?;
         todo.push((number(term), inverse))?;
     }

@@ -191,11 +191,7 @@ impl<R: Ring> Unip<R> {
         ensures split { IfOk result (λ p. (word : List ℕ) → Spells datum.now word w.now → IsSplit (R.ring ring.now) (positive_terms consts.now) (length datum.now.positive) (kept_at (kept_by datum.now word)) self.now p.0 p.1) }
     {
         let collector = Collector::with_first(alloc, ring, datum, consts, w)?;
-        let mut entries = zeros(ring, alloc, collector.roots.len())?;
-        let todo = letters(ring, alloc, &self.entries)?;
-        collector.collect(&mut entries, todo)?;
-        let first = collector.part(&entries, true)?;
-        let second = collector.part(&entries, false)?;
-        Ok((Unip { entries: first }, Unip { entries: second }))
+        let parts = collector.split(&self.entries)?;
+        Ok((Unip { entries: parts.0 }, Unip { entries: parts.1 }))
     }
 }

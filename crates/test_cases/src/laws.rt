@@ -1,11 +1,11 @@
 //! Each law that is a public function of a crate, called once.
 
-use crate::{A_2, NamedDatum};
 use lie_datum::Datum;
 use lie_field::Field;
 use lie_ring::FromIntegers;
 use std::alloc::Global;
 use std::process::Abort;
+use test_rows::{A_2, NamedDatum};
 
 /// A_2.
 fn datum(rt: &impl Abort, alloc: Global) -> Datum {

@@ -5,12 +5,12 @@ ghost use Rattle.lie_field.specs.Quotient.{order};
 ghost use Rattle.lie_letters.specs.Entries.{AreUnits};
 ghost use Rattle.lie_letters.specs.Spelled.{IsWordOverField};
 
-use crate::{A_2, NamedDatum};
 use lie_datum::{Datum, RootId};
 use lie_field::{Fe, Field};
 use lie_letters::{Letter, Torus, Word};
 use std::alloc::Global;
 use std::process::Abort;
+use test_rows::{A_2, NamedDatum};
 
 /// The field of three elements.
 fn field(rt: &impl Abort, alloc: Global) -> Field {

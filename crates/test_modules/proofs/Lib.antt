@@ -1,1 +1,2 @@
+mod SpaceLemmas
 mod WordLemmas

@@ -15,5 +15,5 @@ index : (d : RootDatum) (i : ℕ) → IsLoaded d → IsSimpleIndex d.base i → 
 index d i loaded s = (s, contains_from_in (all_roots d) (simple i) (all_in d loaded (simple i) (IsRoot.is_simple i s)))
 
 -- n_i n_i' is a word
-pub weyl-word : (f : FiniteField) (d : RootDatum) (i : ℕ) (w : List CodeLetter) → IsLoaded d → IsSimpleIndex d.base i → w ≡ N i ∷ Ninv i ∷ [] → IsWordFor f d w
-weyl-word f d i w loaded s e = let x = index d i loaded s in subst (IsWordFor f d) (sym e) (λ c. (x, (x, tt)))
+pub weyl_word : (f : FiniteField) (d : RootDatum) (i : ℕ) (w : List CodeLetter) → IsLoaded d → IsSimpleIndex d.base i → w ≡ N i ∷ Ninv i ∷ [] → IsWordFor f d w
+weyl_word f d i w loaded s e = let x = index d i loaded s in subst (IsWordFor f d) (sym e) (λ c. (x, (x, tt)))

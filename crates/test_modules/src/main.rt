@@ -3,29 +3,26 @@
 //! The stored output was written from what `bench/relations.py` works out from the definitions and from values that
 //! were worked out by hand, never from this program; so a wrong value is a difference of text. Rows are those of
 //! `test_rows`; rows `datum`, `field` and `signs` give what the rows below them are about. `spaces` has the rows on
-//! lowered weights, modules, signs and braid values, `words` those on matrices of words.
+//! lowered weights, modules, signs and braid values, `words` those on matrices of words, `matrices` those on matrices of
+//! integers.
 #![tactic(auto)]
 
+mod matrices;
 mod questions;
 mod spaces;
 mod words;
 
-use crate::questions::{Setting, answered};
+use crate::questions::answers;
 use std::io;
 
 fn main(rt: HostRuntime) -> io::Result<()> {
     let alloc = rt.alloc();
-    let mut setting = Setting {
-        field: None,
-        roots: None,
-        signs: Vec::new(alloc),
-    };
+    let mut lines = Vec::new(alloc);
     for line in rt.lines(alloc) {
-        let line = line?;
-        match answered(alloc, &mut setting, line.as_str()) {
-            Ok(answer) => println!(rt; "{line}{answer}")?,
-            Err(stop) => println!(rt; "{line} = {stop}")?,
-        }
+        lines.push(line?)?;
+    }
+    for line in &answers(alloc, &lines)? {
+        println!(rt; "{line}")?;
     }
     Ok(())
 }

@@ -1,21 +1,44 @@
 //! The question of a row, by its words.
 
+use crate::matrices::about_matrices;
 use crate::spaces::about_spaces;
 use crate::words::about_words;
 use lie_field::Field;
-use std::alloc::Global;
+use std::alloc::{AllocError, Global};
 use test_rows::{Answer, Roots, Stop, load_datum, load_field, read_lists, row};
 
 /// What rows are about: the last field, datum and list of signs before them.
 #[derive(Drop)]
-pub(crate) struct Setting {
-    pub(crate) field: Option<Field>,
-    pub(crate) roots: Option<Roots>,
-    pub(crate) signs: Vec<i8>,
+struct Setting {
+    field: Option<Field>,
+    roots: Option<Roots>,
+    signs: Vec<i8>,
+}
+
+/// The lines with their answers.
+pub(crate) fn answers(alloc: Global, lines: &[String]) -> Result<Vec<String>, AllocError> {
+    let mut setting = Setting {
+        field: None,
+        roots: None,
+        signs: Vec::new(alloc),
+    };
+    let mut answers = Vec::new(alloc);
+    for line in lines {
+        answers.push(with_answer(alloc, &mut setting, line)?)?;
+    }
+    Ok(answers)
+}
+
+/// A line with its answer, or with why it has none.
+fn with_answer(alloc: Global, setting: &mut Setting, line: &str) -> Result<String, AllocError> {
+    match answered(alloc, setting, line) {
+        Ok(answer) => format!(in alloc; "{line}{answer}"),
+        Err(stop) => format!(in alloc; "{line} = {stop}"),
+    }
 }
 
 /// What stands behind a row: its answer, and nothing where the line is a heading.
-pub(crate) fn answered(alloc: Global, setting: &mut Setting, line: &str) -> Result<String, Stop> {
+fn answered(alloc: Global, setting: &mut Setting, line: &str) -> Result<String, Stop> {
     let Some((question, text)) = row(line) else {
         return Ok(String::new(alloc));
     };
@@ -46,7 +69,7 @@ fn about_lists(
     Ok(())
 }
 
-/// Answers a question about the datum, or about the datum and the field.
+/// Answers a question about matrices, about the datum, or about the datum and the field.
 fn about_loaded(
     alloc: Global,
     setting: &Setting,
@@ -54,6 +77,9 @@ fn about_loaded(
     lists: &[Vec<i128>],
     answer: &mut Answer,
 ) -> Result<(), Stop> {
+    if about_matrices(alloc, question, lists, answer)? {
+        return Ok(());
+    }
     let Some(roots) = &setting.roots else {
         return Err(Stop::NoQuestion);
     };

@@ -1,16 +1,18 @@
 //! Rows on modules: weights, matrices of roots, signs and braid values, and lowered weights.
 
 ghost use Rattle.std.specs.Prelude.{◌≡◌, ◌↔◌, IsTrue, IfOk, length};
+ghost use Rattle.std.specs.List.{All};
 ghost use Rattle.lie_datum.specs.RootDatum.{IsWithin};
 ghost use Rattle.lie_const.specs.Adjoint.{IsAdjointOf};
 ghost use Rattle.lie_const.specs.Modules.{IsModule};
 ghost use Rattle.lie_const.specs.Signs.{IsSignTable};
+ghost use Rattle.lie_audit.specs.SignParts.{IsSign};
 
 use lie_audit::{BraidFault, SignFault, braid, signs as read_signs};
 use lie_const::Signs;
-use lie_datum::{Datum, RootId, Vector};
+use lie_datum::{Datum, RootId, Vector, pairing};
 use lie_mat::Mat;
-use lie_orbit::{lower, pairing};
+use lie_orbit::lower;
 use lie_ring::Ints;
 use lie_weight::{Module, ModuleFault};
 use std::alloc::Global;
@@ -27,13 +29,19 @@ pub(crate) fn about_spaces(
 ) -> Result<bool, Stop> {
     match (question, lists) {
         ("lowered weight", [v]) => lowered(&roots.datum, v, answer)?,
-        ("pairing", [x, y]) => answer.number(paired(&weight(x)?, &weight(y)?)?)?,
+        ("pairing", [x, y]) => answer.number(paired(x, y)?)?,
         ("weights of the adjoint module", [_]) => {
-            weights(&roots.datum, &adjoint(alloc, roots)?, answer)?
+            weights(&roots.datum, &adjoint(alloc, &roots.datum)?, answer)?
         }
         ("adjoint matrix", [letter]) => {
             let (k, power) = pair(letter)?;
-            matrix(&roots.datum, &adjoint(alloc, roots)?, k, power, answer)?;
+            matrix(
+                &roots.datum,
+                &adjoint(alloc, &roots.datum)?,
+                k,
+                power,
+                answer,
+            )?;
         }
         ("orbit", [v]) => orbit(alloc, &roots.datum, table, v, answer)?,
         ("orbit matrix", [v, letter]) => {
@@ -53,24 +61,25 @@ fn weight(list: &[i128]) -> Result<Vector, Stop>
     ensures { IfOk result (IsWithin 100) }
 {
     let v = padded(list)?;
-    if is_small(&v) {
+    if is_within(&v, 100) {
         Ok(v)
     } else {
         Err(Stop::NoQuestion)
     }
 }
 
-/// Whether all entries are within 100.
-fn is_small(v: &Vector) -> bool
-    ensures { IsTrue result ↔ IsWithin 100 v.now }
+/// Whether all entries are within a bound.
+fn is_within(v: &Vector, bound: u128) -> bool
+    ensures { IsTrue result ↔ IsWithin bound v.now }
 {
-    v.iter().all(|c| *c >= -100 && *c <= 100)
+    v.iter().all(|c| c.unsigned_abs() <= bound)
 }
 
 /// The pairing of two vectors with small entries.
-fn paired(x: &Vector, y: &Vector) -> Result<i128, Stop> {
-    if is_small(x) && is_small(y) {
-        Ok(pairing(x, y))
+fn paired(x: &[i128], y: &[i128]) -> Result<i128, Stop> {
+    let (x, y) = (padded(x)?, padded(y)?);
+    if is_within(&x, 250_000_000_000_000_000_000_000_000_000_000) && is_within(&y, 80000) {
+        Ok(pairing(&x, &y))
     } else {
         Err(Stop::NoQuestion)
     }
@@ -90,13 +99,22 @@ fn lowered_of(datum: &Datum, v: &Vector) -> Vector
 }
 
 /// The adjoint module.
-pub(crate) fn adjoint(alloc: Global, roots: &Roots) -> Result<Module, Stop>
-    ensures adjoint { IfOk result (IsAdjointOf roots.now.datum) }
-    ensures space { IfOk result (IsModule roots.now.datum) }
-    ensures positive { IfOk result (λ v. v.positive ≡ length roots.now.datum.positive) }
+#[tactic(auto, using(crate::proofs::SpaceLemmas::adjoint_of))]
+fn made_adjoint(alloc: Global, datum: &Datum) -> Result<Module, Stop>
+    ensures { IfOk result (IsAdjointOf datum.now) }
 {
-    let consts = constants(alloc, &roots.datum)?;
-    Ok(Module::adjoint(alloc, &roots.datum, &consts)?)
+    let consts = constants(alloc, datum)?;
+    Ok(Module::adjoint(alloc, datum, &consts)?)
+}
+
+/// The adjoint module, and that it is a module.
+#[tactic(auto, using(crate::proofs::SpaceLemmas::adjoint_module, crate::proofs::SpaceLemmas::positive_of))]
+pub(crate) fn adjoint(alloc: Global, datum: &Datum) -> Result<Module, Stop>
+    ensures adjoint { IfOk result (IsAdjointOf datum.now) }
+    ensures space { IfOk result (IsModule datum.now) }
+    ensures positive { IfOk result (λ v. v.positive ≡ length datum.now.positive) }
+{
+    made_adjoint(alloc, datum)
 }
 
 /// Writes the weights of a module.
@@ -149,14 +167,24 @@ fn entries(matrix: &Mat<Ints>, answer: &mut Answer) -> Result<(), Stop> {
 fn signs(alloc: Global, datum: &Datum, table: &[i8]) -> Result<Signs, Stop>
     ensures { IfOk result (IsSignTable datum.now) }
 {
-    let count = datum.l().checked_mul(2 * datum.m());
-    if count != Some(table.len()) || !table.iter().all(|c| *c == 1 || *c == -1) {
+    let Some(count) = datum.l().checked_mul(2 * datum.m()) else {
+        return Err(Stop::NoQuestion);
+    };
+    if table.len() != count || !are_signs(table) {
         return Err(Stop::NoQuestion);
     }
     Ok(Signs::of(datum, Vec::from_slice(alloc, table)?))
 }
 
+/// Whether each number is 1 or -1.
+fn are_signs(table: &[i8]) -> bool
+    ensures { IsTrue result ↔ All IsSign table.now }
+{
+    table.iter().all(|c| *c == 1 || *c == -1)
+}
+
 /// The module of an orbit, or its fault.
+#[tactic(auto, using(crate::proofs::SpaceLemmas::orbit_positive))]
 fn orbit_of(alloc: Global, datum: &Datum, signs: &Signs, v: &Vector) -> Result<Module, ModuleFault>
     requires signs { IsSignTable datum.now signs.now }
     requires v { IsWithin 100 v.now }
@@ -193,6 +221,7 @@ fn made(alloc: Global, datum: &Datum, table: &[i8], v: &[i128]) -> Result<Module
 }
 
 /// The signs that are read off the adjoint module.
+#[tactic(auto, using(crate::proofs::SpaceLemmas::tested_table))]
 fn signs_of(alloc: Global, datum: &Datum, space: &Module) -> Result<Signs, SignFault>
     requires { IsAdjointOf datum.now space.now }
     ensures { IfOk result (IsSignTable datum.now) }
@@ -203,7 +232,7 @@ fn signs_of(alloc: Global, datum: &Datum, space: &Module) -> Result<Signs, SignF
 /// Writes the signs that are read off the adjoint module.
 fn found_signs(alloc: Global, roots: &Roots, answer: &mut Answer) -> Result<(), Stop> {
     let datum = &roots.datum;
-    let space = adjoint(alloc, roots)?;
+    let space = adjoint(alloc, &roots.datum)?;
     let Ok(signs) = signs_of(alloc, datum, &space) else {
         return Err(Stop::NoQuestion);
     };

@@ -28,7 +28,7 @@ pub(crate) fn about_words(
         ("matrix of h", [t]) => torus_word(alloc, field, roots, t)?,
         _ => return Ok(false),
     };
-    let space = adjoint(alloc, roots)?;
+    let space = adjoint(alloc, &roots.datum)?;
     rows(&matrix(alloc, field, roots, &space, &word)?, answer)?;
     Ok(true)
 }
@@ -56,6 +56,7 @@ fn root_word(
 }
 
 /// n_i n_i'.
+#[tactic(auto, using(crate::proofs::WordLemmas::weyl_word))]
 fn weyl_word(alloc: Global, field: &Field, roots: &Roots, i: i128) -> Result<Word, Stop>
     ensures { IfOk result (IsWordFor field.now roots.now.datum) }
 {

@@ -6,11 +6,11 @@ ghost use Rattle.lie_datum.specs.RootList.{IsNumber};
 ghost use Rattle.lie_const.specs.ConstantTables.{LoadsConstants};
 
 use crate::answers::{Answer, index, padded, read_lists};
+use crate::named_datum::NamedDatum;
 use crate::stops::Stop;
 use lie_const::{ConstFault, Constants};
 use lie_datum::{Datum, DatumFault, RootId, Vector};
 use std::alloc::{AllocError, Global};
-use test_cases::NamedDatum;
 
 /// A datum with its constants.
 #[derive(Drop)]

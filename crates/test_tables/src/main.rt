@@ -16,21 +16,17 @@ mod questions;
 mod roots;
 mod vectors;
 
-use crate::questions::{Setting, answered};
+use crate::questions::answers;
 use std::io;
 
 fn main(rt: HostRuntime) -> io::Result<()> {
     let alloc = rt.alloc();
-    let mut setting = Setting {
-        field: None,
-        roots: None,
-    };
+    let mut lines = Vec::new(alloc);
     for line in rt.lines(alloc) {
-        let line = line?;
-        match answered(alloc, &mut setting, line.as_str()) {
-            Ok(answer) => println!(rt; "{line}{answer}")?,
-            Err(stop) => println!(rt; "{line} = {stop}")?,
-        }
+        lines.push(line?)?;
+    }
+    for line in &answers(alloc, &lines)? {
+        println!(rt; "{line}")?;
     }
     Ok(())
 }

@@ -6,18 +6,39 @@ use crate::products::about_products;
 use crate::roots::about_roots;
 use crate::vectors::about_vectors;
 use lie_field::Field;
-use std::alloc::Global;
+use std::alloc::{AllocError, Global};
 use test_rows::{Answer, Roots, Stop, load_datum, load_field, read_lists, row};
 
 /// What rows are about: the last field and datum before them.
 #[derive(Drop)]
-pub(crate) struct Setting {
-    pub(crate) field: Option<Field>,
-    pub(crate) roots: Option<Roots>,
+struct Setting {
+    field: Option<Field>,
+    roots: Option<Roots>,
+}
+
+/// The lines with their answers.
+pub(crate) fn answers(alloc: Global, lines: &[String]) -> Result<Vec<String>, AllocError> {
+    let mut setting = Setting {
+        field: None,
+        roots: None,
+    };
+    let mut answers = Vec::new(alloc);
+    for line in lines {
+        answers.push(with_answer(alloc, &mut setting, line)?)?;
+    }
+    Ok(answers)
+}
+
+/// A line with its answer, or with why it has none.
+fn with_answer(alloc: Global, setting: &mut Setting, line: &str) -> Result<String, AllocError> {
+    match answered(alloc, setting, line) {
+        Ok(answer) => format!(in alloc; "{line}{answer}"),
+        Err(stop) => format!(in alloc; "{line} = {stop}"),
+    }
 }
 
 /// What stands behind a row: its answer, and nothing where the line is a heading.
-pub(crate) fn answered(alloc: Global, setting: &mut Setting, line: &str) -> Result<String, Stop> {
+fn answered(alloc: Global, setting: &mut Setting, line: &str) -> Result<String, Stop> {
     let Some((question, text)) = row(line) else {
         return Ok(String::new(alloc));
     };

@@ -1,4 +1,5 @@
 -- The test of a field is passed exactly by the data of a field.
+-- For proofs: no public clause cites it.
 use Rattle.std.proofs.Common.{◌≡◌, ℕ, zero, suc, ◌-◌, ◌<◌, leb, ltb, eqb, Bool, not, ◌&&◌, T, List, [], ◌∷◌, All, arith, sym, subst}
 use Rattle.std.proofs.Math.Facts.{yes_and, and_yes, ltb_yes, yes_ltb, leb_yes, yes_leb, eqb_yes, yes_eqb, eqb_no, no_eqb}
 use Rattle.std.proofs.lemmas.Bool.{cases_eq}

@@ -1,4 +1,5 @@
 -- The laws of a commutative ring with one, for the numbers below q.
+-- For proofs: no public clause cites it.
 use Rattle.std.proofs.Common.{◌≡◌, ℕ, ◌+◌, ◌-◌, ◌%◌, ◌^◌, ◌<◌, List, [], ◌∷◌, length, replicate, take, get_or, refl, sym, ap, ◌∙◌, arith}
 use Rattle.std.proofs.Math.Nat.{zero-mod, le_of_eq}
 use Rattle.std.proofs.lemmas.List.{length-replicate}

@@ -1,4 +1,5 @@
 -- Powers, and inverses.
+-- For proofs: no public clause cites it.
 use Rattle.std.proofs.Common.{◌≡◌, ℕ, zero, suc, ◌+◌, ◌-◌, ◌*◌, ◌<◌, ◌≤◌, refl, sym, ap, ◌∙◌, arith}
 use Rattle.std.proofs.Math.Nat.{add-zero, add-suc, mul-zero, mul-suc, mul_comm as mul_comm-ℕ}
 use Rattle.lie_field.specs.Quotient.{FieldData, degree, order, mul, inv, power, IsRingData, IsFieldData}

@@ -1,4 +1,5 @@
 -- The natural numbers in the ring: n stands for n modulo p.
+-- For proofs: no public clause cites it.
 use Rattle.std.proofs.Common.{◌≡◌, ℕ, ◌+◌, ◌-◌, ◌*◌, ◌%◌, ◌<◌, [], ◌∷◌, replicate, sym, ap, ap₂, ◌∙◌, subst, arith}
 use Rattle.std.proofs.Math.Nat.{zero-mod, mod-eq_of_lt, add-zero, mul-zero, add_comm as nat_add_comm, mul_comm as nat_mul_comm}
 use Rattle.lie_field.specs.Polynomials.{times, residues, number}

@@ -1,4 +1,5 @@
 -- Multiplication by x is linear, so multiplication of polynomials modulo f is commutative and associative.
+-- For proofs: no public clause cites it.
 use Rattle.std.proofs.Common.{◌≡◌, ℕ, suc, ◌+◌, ◌-◌, ◌*◌, ◌≤◌, List, [], ◌∷◌, ◌++◌, length, take, get_or, replicate, sym, ap, ◌∙◌, arith, min}
 use Rattle.std.proofs.lemmas.List.{length-replicate, length-take, length-map}
 use Rattle.std.proofs.Math.Nat.{add-zero, zero-add, mul-zero, mul-one, le_of_eq, min-le_left}

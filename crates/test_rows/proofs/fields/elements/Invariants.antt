@@ -4,4 +4,4 @@ use Rattle.lie_field.specs.Quotient.{order}
 use Rattle.test_rows.proofs.fields.elements.Given as goal
 
 abbrev pub invariant-loop-n : goal.invariant-loop-n
-invariant-loop-n g l = All (λ n. n < order l.field.given) l.elements.items
+invariant-loop-n l = All (λ n. n < order l.field.given) l.elements.items

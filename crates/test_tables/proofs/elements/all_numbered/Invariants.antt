@@ -3,4 +3,4 @@ use Rattle.lie_datum.specs.RootList.{IsNumber}
 use Rattle.test_tables.proofs.elements.all_numbered.Given as goal
 
 abbrev pub invariant-loop-k : goal.invariant-loop-k
-invariant-loop-k g l = All (IsNumber l.datum) l.roots.items
+invariant-loop-k l = All (IsNumber l.datum) l.roots.items

@@ -4,4 +4,4 @@ use Rattle.lie_unip.specs.Collection.{AreEntries}
 use Rattle.test_tables.proofs.products.collected.Given as goal
 
 abbrev pub invariant-loop-letter : goal.invariant-loop-letter
-invariant-loop-letter g l = AreEntries (field_ring l.field) (length l.datum.positive) l.u
+invariant-loop-letter l = AreEntries (field_ring l.field) (length l.datum.positive) l.u

@@ -4,4 +4,4 @@ use Rattle.lie_unip.specs.Collection.{AreEntries}
 use Rattle.test_tables.proofs.products.unipotent.Given as goal
 
 abbrev pub invariant-loop-k : goal.invariant-loop-k
-invariant-loop-k g l = AreEntries (field_ring l.field) (length l.datum.positive) l.u
+invariant-loop-k l = AreEntries (field_ring l.field) (length l.datum.positive) l.u

@@ -1,7 +1,7 @@
 use Rattle.std.proofs.Common.{rules, ◌≡◌}
 use Rattle.lie_session.specs.DatumLines.{with_root, with_coroot}
 use Rattle.lie_session.specs.Replies.{InDatum}
-use Rattle.lie_session.proofs.StateLemmas.{does_datum, does_root, does_coroot, form_over}
+use Rattle.lie_session.proofs.StateLemmas.{does_datum, does_root, does_coroot, does_constant, form_over}
 use Rattle.lie_session.proofs.session.Session.obey.Goals as goal
 
 pub form_text-requires-clause-over : goal.form_text-requires-clause-over
@@ -20,3 +20,9 @@ pub returns-in_ok-lines-in-Coroot : goal.returns-in_ok-lines-in-Coroot
 returns-in_ok-lines-in-Coroot c =
     let joined : InDatum c.args.self.now.datum (λ before. c.in_ok-lines-in-Coroot.lines ≡ with_coroot before c.list-in-Coroot.result.now) = search rules in
     does_coroot c.args.self.now c.args.number c.in-Coroot.v c.list-in-Coroot.result.now c.args.line c.in_ok-lines-in-Coroot.lines c.read_datum-in-Coroot.result _ c.in-Coroot.is (search rules) joined c.read_datum-in-Coroot.ensures
+
+pub returns-in_ok-text-in-Constant : goal.returns-in_ok-text-in-Constant
+returns-in_ok-text-in-Constant c =
+    does_constant c.args.self.now c.args.number c.args.line c.in-Constant.r c.in-Constant.s c.both-in-Constant.result.0.now c.both-in-Constant.result.1.now
+    c.in_ok-text-in-Constant.text c.answer-in-Constant.result c.in-Constant.is c.both-in-Constant.ensures.field c.both-in-Constant.ensures.datum
+    c.in_ok-text-in-Constant.ensures c.answer-in-Constant.ensures

@@ -11,20 +11,20 @@ pub bounds-entries-place : goal.bounds-entries-place
 bounds-entries-place g c =
     let self = c.args.self.now in
     let below = c.requires.k in
-    let count = c.requires.lawful.count in
+    let count = c.args.self.now.lawful.count in
     let inside : c.args.k < length self.places.items = omega (arith, below, count) in
     let read : c.index-place.result.now ≡ get_or self.places.items c.args.k 0 = get_or_read self.places.items c.args.k _ inside c.index-place.ensures 0 in
     subst (λ n. n < length c.args.entries.now) (sym read)
-    (place_within (g.R.Ring.ring self.ring.now) self.zero self.consts.now self.kept.items self.roots.items self.places.items c.requires.lawful c.args.entries.now c.requires.entries c.args.k below)
+    (place_within (g.R.Ring.ring self.ring.now) self.zero self.consts.now self.kept.items self.roots.items self.places.items c.args.self.now.lawful c.args.entries.now c.requires.entries c.args.k below)
 
 pub offset_bounds-entries-place : goal.offset_bounds-entries-place
 offset_bounds-entries-place g c =
     let self = c.args.self.now in
     let below = c.requires.k in
-    let count = c.requires.lawful.count in
+    let count = c.args.self.now.lawful.count in
     let inside : c.args.k < length self.places.items = omega (arith, below, count) in
     let read : c.index-place.result.now ≡ get_or self.places.items c.args.k 0 = get_or_read self.places.items c.args.k _ inside c.index-place.ensures 0 in
-    let l = place_within (g.R.Ring.ring self.ring.now) self.zero self.consts.now self.kept.items self.roots.items self.places.items c.requires.lawful c.args.entries.now c.requires.entries c.args.k below in
+    let l = place_within (g.R.Ring.ring self.ring.now) self.zero self.consts.now self.kept.items self.roots.items self.places.items c.args.self.now.lawful c.args.entries.now c.requires.entries c.args.k below in
     omega (arith, read, l)
 
 pub roomy_copy-requires-clause-a : goal.roomy_copy-requires-clause-a
@@ -32,10 +32,10 @@ roomy_copy-requires-clause-a g c =
     let self = c.args.self.now in
     let R = g.R.Ring.ring self.ring.now in
     let below = c.requires.k in
-    let count = c.requires.lawful.count in
+    let count = c.args.self.now.lawful.count in
     let inside : c.args.k < length self.places.items = omega (arith, below, count) in
     let read : c.index-place.result.now ≡ get_or self.places.items c.args.k 0 = get_or_read self.places.items c.args.k _ inside c.index-place.ensures 0 in
-    let l = place_within R self.zero self.consts.now self.kept.items self.roots.items self.places.items c.requires.lawful c.args.entries.now c.requires.entries c.args.k below in
+    let l = place_within R self.zero self.consts.now self.kept.items self.roots.items self.places.items c.args.self.now.lawful c.args.entries.now c.requires.entries c.args.k below in
     let place : c.index-place.result.now < length c.args.entries.now = omega (arith, read, l) in
     subst (Fits R) (sym c.index-entries-place.is) (c.requires.entries.fit c.index-place.result.now c.index-entries-place.result place)
 
@@ -45,12 +45,12 @@ returns-then-index-first-clause-value g c =
     let R = g.R.Ring.ring self.ring.now in
     let k = c.args.k in
     let below = c.requires.k in
-    let count = c.requires.lawful.count in
+    let count = c.args.self.now.lawful.count in
     let long = c.requires.count in
     let inside : k < length self.places.items = omega (arith, below, count) in
     let inside' : k < length self.kept.items = omega (arith, below, long) in
     let read : c.index-place.result.now ≡ get_or self.places.items k 0 = get_or_read self.places.items k _ inside c.index-place.ensures 0 in
-    let l = place_within R self.zero self.consts.now self.kept.items self.roots.items self.places.items c.requires.lawful c.args.entries.now c.requires.entries k below in
+    let l = place_within R self.zero self.consts.now self.kept.items self.roots.items self.places.items c.args.self.now.lawful c.args.entries.now c.requires.entries k below in
     let place : c.index-place.result.now < length c.args.entries.now = omega (arith, read, l) in
     let member : beq (get_or self.kept.items k false) c.args.first ≡ true = ap (λ b. beq b c.args.first) (sym (get_or_read self.kept.items k _ inside' c.index.ensures false)) ∙ c.if-index-first.true in
     let entry : c.index-entries-place.result ≡ get_or c.args.entries.now (get_or self.places.items k 0) R.zero =

@@ -1,9 +1,8 @@
-use Rattle.std.proofs.Common.{◌≤◌, ◌++◌, reverse, length}
+use Rattle.std.proofs.Common.{◌++◌, reverse, length}
 use Rattle.lie_letters.specs.RingLetters.{IsRingWord}
-use Rattle.lie_unip.specs.Collection.{AreEntries}
 use Rattle.lie_letters.specs.PositiveTerms.{positive_terms}
 use Rattle.lie_unip.specs.Splitting.{kept_at, kept_first}
-use Rattle.lie_unip.specs.Placing.{Leads, letters_at, weight, ZeroFrom}
+use Rattle.lie_unip.specs.Placing.{Leads, letters_at, weight, IsSortedWord}
 use Rattle.lie_unip.proofs.collector.Collector.collect.Given as goal
 
 abbrev pub invariant-loop-root : goal.invariant-loop-root
@@ -12,9 +11,7 @@ invariant-loop-root g l =
     let m = l.self.consts.now.positive in
     let ks = l.self.roots.items in
     record {
-      entries : AreEntries R (length ks) l.entries.items;
-      within : l.end ≤ length ks;
-      zeros : ZeroFrom R l.end l.entries.items;
+      word : IsSortedWord R (length ks) l.end l.entries.items;
       lawful : IsRingWord R m (reverse l.todo.items);
       leads : Leads R (positive_terms l.self.consts.now) (kept_first (kept_at l.self.kept.items)) m
           (letters_at ks l.initial.entries.items ++ reverse l.initial.todo.items) (letters_at ks l.entries.items ++ reverse l.todo.items);

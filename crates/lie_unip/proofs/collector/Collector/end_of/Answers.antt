@@ -12,4 +12,4 @@ loop-k-preserved g c =
     let high : k ≤ length entries = c.loop-k.auto.k in
     let inside : k - 1 < length entries = omega (arith, above, high) in
     let read : c.index-entries-k.result ≡ get_or entries (k - 1) R.zero = get_or_read entries (k - 1) _ inside c.index-entries-k.is R.zero in
-    zeros_more R entries k (k - 1) (omega (arith, above)) (sym read ∙ c.same.ensures.0 c.if-not-same.false ∙ c.requires.lawful.zero_is) c.loop-k.invariant
+    zeros_more R entries k (k - 1) (omega (arith, above)) (sym read ∙ c.same.ensures.0 c.if-not-same.false ∙ c.args.self.now.lawful.zero_is) c.loop-k.invariant

@@ -1,21 +1,9 @@
-use Rattle.std.proofs.Common.{◌≡◌, ◌+◌, ◌<◌, length, inl, inr, get_or, sym, ◌∙◌, ap₂, arith}
+use Rattle.std.proofs.Common.{◌≡◌, ◌+◌, ◌<◌, length, inl, inr, get_or, sym, ◌∙◌, arith}
 use Rattle.std.proofs.lemmas.List.{get_or_read}
 use Rattle.lie_letters.specs.PositiveTerms.{positive_terms}
-use Rattle.lie_unip.specs.Splitting.{kept_at}
-use Rattle.lie_unip.specs.Placing.{terms_between}
-use Rattle.lie_unip.proofs.OrderedLemmas.{different_at}
 use Rattle.lie_unip.proofs.PlacingLemmas.{idle_more}
 use Rattle.lie_unip.proofs.collector.Collector.first_behind.Goals as goal
 use Rattle.lie_unip.proofs.collector.Collector.first_behind.Goals.{else-not-same-via-then-not-same+else-not-commute, else-not-same-via-else-not-same}
-
-pub commute-requires-clause-other : goal.commute-requires-clause-other
-commute-requires-clause-other g c =
-    let ks = c.args.self.now.roots.items in
-    let test = c.loop-k-test.true in
-    let within = c.requires.end in
-    let from = c.loop-k.auto.k in
-    λ e. different_at (kept_at c.args.self.now.kept.items) ks c.args.at c.loop-k.k c.requires.lawful.sorted (omega (arith, from)) (omega (arith, test, within))
-    (sym c.root-root.ensures.value ∙ e ∙ c.root.ensures.value)
 
 pub loop-k-preserved : goal.loop-k-preserved
 loop-k-preserved g c =
@@ -27,12 +15,12 @@ loop-k-preserved g c =
     let r = get_or ks c.args.at 0 in
     let terms = positive_terms self.consts.now in
     let test = c.loop-k-test.true in
-    let within = c.requires.end in
-    let count = c.requires.entries.count in
+    let within = c.requires.word.within in
+    let count = c.requires.word.entries.count in
     let inside : k < length entries = omega (arith, test, within, count) in
     let read : c.index-entries-k.result ≡ get_or entries k R.zero = get_or_read entries k _ inside c.index-entries-k.is R.zero in
     idle_more R terms r ks (c.args.at + 1) k entries c.loop-k.invariant
     (elim c.else-not-same.branch [
-      | else-not-same-via-then-not-same+else-not-commute w ↦ inr (sym (ap₂ (λ p q. terms_between terms p q) c.root-root.ensures.value w.root.ensures.value) ∙ w.commute.ensures.0 w.if-not-commute.false)
-      | else-not-same-via-else-not-same w ↦ inl (sym read ∙ c.same.ensures.0 w.if-not-same.false ∙ c.requires.lawful.zero_is)
+      | else-not-same-via-then-not-same+else-not-commute w ↦ inr (w.commute.ensures.0 w.if-not-commute.false)
+      | else-not-same-via-else-not-same w ↦ inl (sym read ∙ c.same.ensures.0 w.if-not-same.false ∙ c.args.self.now.lawful.zero_is)
     ])

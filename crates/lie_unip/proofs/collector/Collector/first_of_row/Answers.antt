@@ -17,12 +17,12 @@ loop-i-preserved g c =
     let entries = c.args.entries.now in
     let q = get_or c.args.row.now c.loop-i.i 0 in
     let near = c.if-k-end.false in
-    let within = c.requires.end in
-    let count = c.requires.entries.count in
+    let within = c.requires.word.within in
+    let count = c.requires.word.entries.count in
     let inside : q < length entries = omega (arith, near, within, count) in
     let read : c.index-entries-k.result ≡ get_or entries q R.zero = get_or_read entries q _ inside c.index-entries-k.is R.zero in
     walked_on (positive_terms self.consts.now) (get_or ks c.args.at 0) ks R entries c.args.row.now (c.args.at + 1) (length ks) c.loop-i.i c.loop-i-test.true
-    (sym read ∙ c.same.ensures.0 c.if-not-same.false ∙ c.requires.lawful.zero_is) c.loop-i.invariant
+    (sym read ∙ c.same.ensures.0 c.if-not-same.false ∙ c.args.self.now.lawful.zero_is) c.loop-i.invariant
 
 pub returns-clause-idle : goal.returns-clause-idle
 returns-clause-idle g c =
@@ -32,7 +32,7 @@ returns-clause-idle g c =
     let terms = positive_terms self.consts.now in
     let r = get_or ks c.args.at 0 in
     let over = c.loop-i-test.false in
-    idle_fewer R terms r ks (c.args.at + 1) (length ks) c.args.end c.args.entries.now c.requires.end
+    idle_fewer R terms r ks (c.args.at + 1) (length ks) c.args.end c.args.entries.now c.requires.word.within
     (walked_all terms r ks R c.args.entries.now c.args.row.now (c.args.at + 1) (length ks) c.loop-i.i (omega (arith, over)) c.loop-i.invariant)
 
 pub returns-then-k-end-clause-idle : goal.returns-then-k-end-clause-idle

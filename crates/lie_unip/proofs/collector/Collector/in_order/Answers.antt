@@ -15,8 +15,8 @@ loop-k-preserved g c =
       places = c.in_ok-push-2.ensures.items ∙ ap (λ l. l ++ k ∷ []) c.loop-k.invariant.places ∙ ap (λ n. range_with_len 0 k ++ n ∷ []) zero ∙ sym (range_next 0 k);
     }
 
-pub returns-clause-lawful : goal.returns-clause-lawful
-returns-clause-lawful g c =
+pub invariant_of-result : goal.invariant_of-result
+invariant_of-result g c =
     let t = c.args.consts.now in
     let m = c.m-m.ensures.value in
     let bound = c.m-m.ensures.bound in
@@ -24,9 +24,11 @@ returns-clause-lawful g c =
     let end = c.loop-k-test.false in
     let last = c.loop-k.auto.k-end in
     let all : c.loop-k.k ≡ t.positive = omega (arith, m, loads, end, last) in
-    collector_in_order (g.R.Ring.ring c.args.ring.now) c.in_ok-zero.zero t c.new.result.items c.loop-k.roots.items c.loop-k.places.items
-    c.requires.roomy c.in_ok-zero.ensures.value c.in_ok-zero.ensures.fits (omega (arith, m, loads, bound)) (table_collectable c.args.datum.now c.loaded.ensures t c.requires.constants)
-    c.new.ensures.items (c.loop-k.invariant.roots ∙ ap (range_with_len 1) all) (c.loop-k.invariant.places ∙ ap (range_with_len 0) all)
+    record {
+      lawful = collector_in_order (g.R.Ring.ring c.args.ring.now) c.in_ok-zero.zero t c.new.result.items c.loop-k.roots.items c.loop-k.places.items
+          c.requires.roomy c.in_ok-zero.ensures.value c.in_ok-zero.ensures.fits (omega (arith, m, loads, bound)) (table_collectable c.args.datum.now c.loaded.ensures t c.requires.constants)
+          c.new.ensures.items (c.loop-k.invariant.roots ∙ ap (range_with_len 1) all) (c.loop-k.invariant.places ∙ ap (range_with_len 0) all);
+    }
 
 pub returns-clause-roots : goal.returns-clause-roots
 returns-clause-roots g c =

@@ -14,7 +14,7 @@ loop-k-preserved g c =
     let count = c.requires.count in
     record {
       fit = subst (All (Fits R)) (sym c.in_ok-push.ensures.items) (All-push (Fits R) c.loop-k.part.items c.in_ok-element.element c.loop-k.invariant.fit c.in_ok-element.ensures.fits);
-      chosen = part_more R self.zero self.consts.now self.kept.items self.roots.items self.places.items c.requires.lawful c.args.entries.now c.requires.entries c.args.first c.loop-k.k c.in_ok-element.element
+      chosen = part_more R self.zero self.consts.now self.kept.items self.roots.items self.places.items c.args.self.now.lawful c.args.entries.now c.requires.entries c.args.first c.loop-k.k c.in_ok-element.element
           c.loop-k.part.items c.push.new.self.items (omega (arith, long, test, count)) c.in_ok-element.ensures.value c.loop-k.invariant.chosen c.in_ok-push.ensures.items;
     }
 
@@ -25,7 +25,7 @@ returns-clause-chosen g c =
     let long = c.len-k-end.ensures in
     let test = c.loop-k-test.false in
     let count = c.requires.count in
-    part_all R self.zero self.consts.now self.kept.items self.roots.items self.places.items c.requires.lawful c.args.entries.now c.requires.entries c.args.first c.loop-k.k c.loop-k.part.items
+    part_all R self.zero self.consts.now self.kept.items self.roots.items self.places.items c.args.self.now.lawful c.args.entries.now c.requires.entries c.args.first c.loop-k.k c.loop-k.part.items
     (omega (arith, long, test, count)) c.loop-k.invariant.chosen
 
 pub returns-clause-entries : goal.returns-clause-entries
@@ -35,9 +35,9 @@ returns-clause-entries g c =
     let long = c.len-k-end.ensures in
     let test = c.loop-k-test.false in
     let count = c.requires.count in
-    let all = part_all R self.zero self.consts.now self.kept.items self.roots.items self.places.items c.requires.lawful c.args.entries.now c.requires.entries c.args.first c.loop-k.k c.loop-k.part.items
+    let all = part_all R self.zero self.consts.now self.kept.items self.roots.items self.places.items c.args.self.now.lawful c.args.entries.now c.requires.entries c.args.first c.loop-k.k c.loop-k.part.items
     (omega (arith, long, test, count)) c.loop-k.invariant.chosen in
     record {
-      count = ap length all ∙ length-part R self.zero self.consts.now self.kept.items self.roots.items self.places.items c.requires.lawful c.args.entries.now c.requires.entries c.args.first;
+      count = ap length all ∙ length-part R self.zero self.consts.now self.kept.items self.roots.items self.places.items c.args.self.now.lawful c.args.entries.now c.requires.entries c.args.first;
       fit = c.loop-k.invariant.fit;
     }

@@ -9,10 +9,10 @@ use Rattle.lie_unip.proofs.collector.Collector.place.Goals as goal
 pub returns-then-same-clause-placed : goal.returns-then-same-clause-placed
 returns-then-same-clause-placed g c =
     let self = c.args.self.now in
-    let lawful = c.requires.lawful in
+    let lawful = c.args.self.now.lawful in
     placed_zero (g.R.Ring.ring self.ring.now) (g.met.R.Ring.is_ring self.ring.now) self.consts.now.positive (positive_terms self.consts.now) lawful.collectable (kept_at self.kept.items) lawful.apart
-    self.roots.items lawful.sorted lawful.within c.args.root 0 c.args.a.now c.args.entries.now.items c.args.todo.now.items c.requires.low c.requires.high
-    (c.same.ensures.0 c.if-same.true ∙ lawful.zero_is) c.requires.entries c.requires.todo
+    self.roots.items lawful.sorted lawful.within c.args.root 0 c.args.a.now c.args.entries.now.items c.args.todo.now.items c.requires.todo.1.0 c.requires.todo.1.1
+    (c.same.ensures.0 c.if-same.true ∙ lawful.zero_is) c.requires.word.entries (c.requires.todo.0.1, c.requires.todo.1.2)
 
 pub returns-clause-placed : goal.returns-clause-placed
 returns-clause-placed g c =
@@ -22,11 +22,11 @@ returns-clause-placed g c =
     let terms = positive_terms self.consts.now in
     let ks = self.roots.items in
     let kept = kept_at self.kept.items in
-    let lawful = c.requires.lawful in
+    let lawful = c.args.self.now.lawful in
     let r = c.args.root in
     let p = c.index-at.result.now in
-    let low = c.requires.low in
-    let high = c.requires.high in
+    let low = c.requires.todo.1.0 in
+    let high = c.requires.todo.1.1 in
     let count = lawful.count in
     let behind : r - 1 < length self.places.items = omega (arith, low, high, count) in
     let place : p ≡ get_or self.places.items (r - 1) 0 = get_or_read self.places.items (r - 1) _ behind c.index-at.ensures 0 in
@@ -44,9 +44,12 @@ returns-clause-placed g c =
     let inside : p < length after = omega (arith, within, long) in
     let b : c.index.result.now ≡ get_or after p R.zero = get_or_read after p _ inside c.index.ensures R.zero in
     placed R (g.met.R.Ring.is_ring self.ring.now) m terms lawful.collectable kept lawful.apart ks lawful.sorted lawful.within r p f c.args.a.now c.index.result.now c.in_ok-sum.sum
-    before after c.args.todo.now.items c.lift.new.todo.items (sym root) within c.first_met-first.ensures.after c.first_met-first.ensures.bound met lifted c.requires.a.0 b
+    before after c.args.todo.now.items c.lift.new.todo.items (sym root) within c.first_met-first.ensures.after c.first_met-first.ensures.bound met lifted c.requires.todo.0.0 b
     c.in_ok-sum.ensures.value c.in_ok-sum.ensures.fits
 
-pub returns-clause-zeros : goal.returns-clause-zeros
-returns-clause-zeros g c =
-    zeros_behind (g.R.Ring.ring c.args.self.now.ring.now) c.lift.new.entries.items c.index-at.result.now c.first_met-first.result c.in_ok-sum.sum c.first_met-first.ensures.after c.in_ok-lift.ensures.after
+pub returns-clause-word : goal.returns-clause-word
+returns-clause-word g c = record {
+  entries = (returns-clause-placed g c).entries;
+  within = c.first_met-first.ensures.bound;
+  zeros = zeros_behind (g.R.Ring.ring c.args.self.now.ring.now) c.lift.new.entries.items c.index-at.result.now c.first_met-first.result c.in_ok-sum.sum c.first_met-first.ensures.after c.in_ok-lift.ensures.after;
+}

@@ -26,8 +26,8 @@ returns-clause-count g c =
     let word = c.requires.element.0 in
     ap length (c.in_ok-kept.ensures word c.requires.element.1) ∙ length-kept_by c.args.datum.now word ∙ sym c.requires.constants.0
 
-pub returns-clause-lawful : goal.returns-clause-lawful
-returns-clause-lawful g c =
+pub invariant_of-result : goal.invariant_of-result
+invariant_of-result g c =
     let d = c.args.datum.now in
     let t = c.args.consts.now in
     let kept = c.in_ok-kept.kept.items in
@@ -39,8 +39,10 @@ returns-clause-lawful g c =
     let bound = c.m-m.ensures.bound in
     let positive = c.requires.constants.0 in
     let list : c.deref-3.result.now ≡ c.push_group-2.new.roots.items = search rules in
-    collector_with_first (g.R.Ring.ring c.args.ring.now) c.in_ok-zero.zero t kept c.push_group-2.new.roots.items c.in_ok-places.places.items
-    c.requires.roomy c.in_ok-zero.ensures.value c.in_ok-zero.ensures.fits (omega (arith, m, bound, positive)) (table_collectable d c.loaded.ensures t c.requires.constants)
-    (subst (λ k. StayApart t.positive (positive_terms t) (kept_at k)) (sym same) (kept_apart d c.loaded.ensures t c.requires.constants word c.requires.element.1.letters))
-    count groups (c.in_ok-places.ensures.count ∙ m ∙ sym positive)
-    (subst (λ ks. (p : ℕ) → p < length ks → get_or c.in_ok-places.places.items (get_or ks p 0 - 1) 0 ≡ p) list c.in_ok-places.ensures.placed)
+    record {
+      lawful = collector_with_first (g.R.Ring.ring c.args.ring.now) c.in_ok-zero.zero t kept c.push_group-2.new.roots.items c.in_ok-places.places.items
+          c.requires.roomy c.in_ok-zero.ensures.value c.in_ok-zero.ensures.fits (omega (arith, m, bound, positive)) (table_collectable d c.loaded.ensures t c.requires.constants)
+          (subst (λ k. StayApart t.positive (positive_terms t) (kept_at k)) (sym same) (kept_apart d c.loaded.ensures t c.requires.constants word c.requires.element.1.letters))
+          count groups (c.in_ok-places.ensures.count ∙ m ∙ sym positive)
+          (subst (λ ks. (p : ℕ) → p < length ks → get_or c.in_ok-places.places.items (get_or ks p 0 - 1) 0 ≡ p) list c.in_ok-places.ensures.placed);
+    }

@@ -1,0 +1,3 @@
+pub mod LoadingLemmas
+pub mod OneFrame
+mod WorkedExamples
