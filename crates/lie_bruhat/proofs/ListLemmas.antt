@@ -45,7 +45,7 @@ use Rattle.lie_unip.proofs.WordLemmas.{word_lawful}
 use Rattle.std.proofs.lemmas.Bool.Decides.{nat_tests}
 use Rattle.lie_bruhat.specs.Products.{ZeroElsewhere}
 use Rattle.lie_bruhat.proofs.FormLemmas.{dropped_zeros, listed}
-use Rattle.lie_bruhat.proofs.PassLemmas.{Passes, joined_equal, joined_before, joined_behind, passes_none, passes_append, inverse_before, inverse_passes}
+use Rattle.lie_bruhat.proofs.PassLemmas.{Passes, joined_equal, joined_before, joined_behind, passes_none, passes_append, passes_through, inverse_before, inverse_passes}
 
 -- the elements that aren't chosen are 0
 chosen_zero : (choice : ℕ → Bool) (s k : ℕ) (u : List ℕ) → choice (s + k) ≡ false → get_or (chosen choice 0 s u) k 0 ≡ 0
@@ -319,3 +319,23 @@ module _ (f : SignedFrame) (lawful : IsLawfulSigned f) where
   place_number k r h e =
       let one : suc k ≡ k + 1 = omega arith in
       subst (IsNumber f.datum) (sym (e ∙ at_place k h)) (subst (λ n. IsNumber f.datum (pos n)) one (some_within f.datum.positive k h))
+
+  -- the letter of one place, moved past a word and a torus letter
+  pub moved_letter : (h word u : List ℕ) (k a : ℕ) (r s t : ℤ) (b c : ℕ) (v : List (ℤ × ℕ)) → ZeroElsewhere (kept_by f.datum word) u → length u ≡ m → k < length u → a ≡ get_or u k 0 → ¬ (a ≡ 0)
+      → r ≡ number_at m k → IsNumber f.datum s → root_of f.datum s ≡ moved f.datum.base word (root_of f.datum r) → JoinedInGroup f (map N word ++ X r a ∷ []) (X s b ∷ map N word)
+      → t ≡ s → c < order f.field.given → JoinedInGroup f (H h ∷ X s b ∷ []) (X t c ∷ H h ∷ [])
+      → AreMoved f (H h ∷ map N word) (take k u) v → AreMoved f (H h ∷ map N word) (take (k + 1) u) (v ++ (t, c) ∷ [])
+  moved_letter h word u k a r s t b c v zeros count inside e nonzero place number image first same below second known =
+      let low : k < m = omega (arith, inside, count) in
+      let at = place ∙ at_place k low in
+      let own = subst (IsNumber f.datum) (sym same) number in
+      let root = ap (root_of f.datum) same ∙ subst (λ q. root_of f.datum s ≡ moved f.datum.base word (root_of f.datum q)) at image in
+      let passes = passes_through f (H h ∷ []) (map N word) (X (pos (k + 1)) a ∷ []) (X s b ∷ []) (X t c ∷ [])
+      (subst (λ q. JoinedInGroup f (map N word ++ X q a ∷ []) (X s b ∷ map N word)) at first) second in
+      moved_more (H h ∷ map N word) u k a t c v inside e nonzero own (stays_positive word u k t zeros low (λ q. nonzero (e ∙ q)) own root) (fits_below c below) passes known
+
+-- what is read within a list, whatever stands for a place behind its end
+pub read_within : (u : List ℕ) (k d e : ℕ) → k < length u → get_or u k d ≡ get_or u k e
+read_within [] k d e h = absurd (omega (arith, h))
+read_within (a ∷ u) zero d e h = refl
+read_within (a ∷ u) (suc k) d e h = read_within u k d e (omega (arith, h))

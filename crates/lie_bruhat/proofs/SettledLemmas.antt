@@ -1,19 +1,20 @@
 -- Forms made of other forms: letters taken from the second list to the front, another second list, and a torus letter behind a form.
 use Rattle.std.proofs.Common.{◌≡◌, ℕ, ℤ, List, [], ◌∷◌, ◌++◌, map, length, get_or, sym, ap, subst, ◌∙◌, append_assoc, Result, Ok, Err, IfOk}
 use Rattle.std.specs.Prelude.{nat_lt}
+use Rattle.lie_field.specs.FiniteField.{FiniteField}
 use Rattle.lie_field.specs.FieldRing.{field_ring}
 use Rattle.lie_weyl.specs.WeylElement.{SameProduct, Spells, IsElement}
 use Rattle.lie_weyl.proofs.Linearity.{spelled_same}
 use Rattle.lie_letters.specs.declared.letter.Letter.{Letter}
 use Rattle.lie_letters.specs.declared.letter.Letter.TheVariants.{H, N}
 use Rattle.lie_letters.specs.Entries.{AreUnits}
-use Rattle.lie_letters.specs.Frames.{dim}
+use Rattle.lie_letters.specs.Frames.{FrameData, dim}
 use Rattle.lie_letters.specs.GroupSpelled.{JoinedInGroup}
 use Rattle.lie_letters.specs.PositiveTerms.{positive_terms}
 use Rattle.lie_letters.specs.RingLetters.{full_word}
 use Rattle.lie_letters.specs.SignedFrames.{SignedFrame, unsigned, IsLawfulSigned}
-use Rattle.lie_letters.specs.Spelled.{root_letters}
-use Rattle.lie_letters.proofs.CallerLemmas.{JoinedInGroup-trans, JoinedInGroup-flip, JoinedInGroup-over, IsWordOver-append}
+use Rattle.lie_letters.specs.Spelled.{JoinedSpelled, root_letters}
+use Rattle.lie_letters.proofs.CallerLemmas.{JoinedInGroup-trans, JoinedInGroup-flip, JoinedInGroup-over, JoinedInGroup-plain, IsWordOver-append}
 use Rattle.lie_unip.specs.Collection.{AreEntries, IsCollected}
 use Rattle.lie_unip.specs.Forms.{FormData, IsForm, IsFormOf, IsShortest, StandsFor, form_word}
 use Rattle.lie_unip.specs.PositiveLetters.{ArePositiveLetters, by_place}
@@ -105,6 +106,13 @@ module _ (f : SignedFrame) (lawful : IsLawfulSigned f) where
       subst (λ i. IfOk r (λ n. (z : List Letter) → StandsFor f (record { first = i; torus = x.torus; weyl = x.weyl; second = y }) z → IsFormOf f n z)) a
       (subst (λ i. IfOk r (λ n. (z : List Letter) → StandsFor f (record { first = u; torus = i; weyl = x.weyl; second = y }) z → IsFormOf f n z)) b
       (subst (λ i. IfOk r (λ n. (z : List Letter) → StandsFor f (record { first = u; torus = t; weyl = i; second = y }) z → IsFormOf f n z)) c h))
+
+  -- the letters of two torus vectors and that of their product
+  pub torus_product : (F : FiniteField) (s s' t h : List ℕ) → F ≡ f.field → s ≡ s' → dim (unsigned f) ≡ length s'
+      → ((g : FrameData) → g.field ≡ F → dim g ≡ length s → JoinedSpelled g (H s ∷ H t ∷ []) (H h ∷ [])) → JoinedInGroup f (H s' ∷ H t ∷ []) (H h ∷ [])
+  torus_product F s s' t h field same long joined =
+      subst (λ i. JoinedInGroup f (H i ∷ H t ∷ []) (H h ∷ [])) same
+      (JoinedInGroup-plain f (H s ∷ H t ∷ []) (H h ∷ []) (joined (unsigned f) (sym field) (long ∙ ap length (sym same))))
 
   -- with another torus vector, and elements that are 0 where they were, it is still a form
   pub torus_form : (x : FormData) (t h v : List ℕ) → IsForm f x → JoinedInGroup f (H x.torus ∷ H t ∷ []) (H h ∷ []) → AreEntries (field_ring f.field) (length f.datum.positive) v

@@ -2,39 +2,34 @@ use Rattle.std.proofs.Common.{◌≡◌, ◌++◌, ◌∷◌, [], length, map, a
 use Rattle.std.specs.Prelude.{ℕ, slice_index_or}
 use Rattle.lie_letters.specs.declared.letter.Letter.TheVariants.{H, N}
 use Rattle.lie_letters.specs.GroupSpelled.{JoinedInGroup}
-use Rattle.lie_letters.specs.SignedFrames.{SignedFrame, unsigned}
-use Rattle.lie_letters.proofs.CallerLemmas.{JoinedInGroup-plain}
+use Rattle.lie_letters.specs.SignedFrames.{SignedFrame}
 use Rattle.lie_unip.specs.Forms.{IsForm}
 use Rattle.lie_weyl.specs.WeylElement.{IsLeastWord}
 use Rattle.lie_bruhat.specs.Products.{IsTimes}
 use Rattle.lie_bruhat.proofs.ListLemmas.{letters}
-use Rattle.lie_bruhat.proofs.SettledLemmas.{torus_form, torus_times}
+use Rattle.lie_bruhat.proofs.SettledLemmas.{torus_product, torus_form, torus_times}
 use Rattle.lie_bruhat.proofs.product.times_torus.Goals as goal
-
--- the product of the two torus vectors
-product : (c : goal.After-w-2) → JoinedInGroup c.args.frame.now (H c.args.f.now.torus ∷ H c.torus_past_word.result ∷ []) (H c.mul-h.result ∷ [])
-product c =
-    let f = c.args.frame.now in
-    subst (λ t. JoinedInGroup f (H t ∷ H c.torus_past_word.result ∷ []) (H c.mul-h.result ∷ [])) c.h.ensures
-    (JoinedInGroup-plain f (H c.h.result.now ∷ H c.torus_past_word.result ∷ []) (H c.mul-h.result ∷ [])
-    (c.mul-h.ensures.joined (unsigned f) (sym (ap (λ (z : SignedFrame). z.field) c.frame.view_is)) (c.requires.form.long ∙ ap length (sym c.h.ensures))))
-
-form : (c : goal.After-w-2) → IsForm c.args.frame.now (record { first = c.args.f.now.first; torus = c.mul-h.result; weyl = c.args.f.now.weyl; second = c.in_ok-v.v })
-form c =
-    torus_form c.args.frame.now c.lawful.ensures c.args.f.now c.torus_past_word.result c.mul-h.result c.in_ok-v.v c.requires.form (product c) c.in_ok-v.ensures.entries
-    (subst (λ v. (k : ℕ) → slice_index_or v k 0 ≡ 0 → slice_index_or c.in_ok-v.v k 0 ≡ 0) c.v.ensures c.in_ok-v.ensures.zeros)
 
 pub new-requires : goal.new-requires
 new-requires c =
     let f = c.args.frame.now in
+    let x = c.args.f.now in
+    let product = torus_product f c.lawful.ensures c.frame.inside.field c.h.result.now x.torus c.torus_past_word.result c.mul-h.result (ap (λ (z : SignedFrame). z.field) c.frame.view_is) c.h.ensures c.requires.form.long c.mul-h.ensures.joined in
+    let form =
+    torus_form f c.lawful.ensures x c.torus_past_word.result c.mul-h.result c.in_ok-v.v c.requires.form product c.in_ok-v.ensures.entries
+    (subst (λ v. (k : ℕ) → slice_index_or v k 0 ≡ 0 → slice_index_or c.in_ok-v.v k 0 ≡ 0) c.v.ensures c.in_ok-v.ensures.zeros) in
     subst (λ i. IsForm f (record { first = i; torus = c.mul-h.result; weyl = c.w-2.result.now; second = c.in_ok-v.v })) (sym (c.in_ok-u.ensures ∙ c.u.ensures))
-    (subst (λ i. IsForm f (record { first = c.args.f.now.first; torus = c.mul-h.result; weyl = i; second = c.in_ok-v.v })) (sym c.w-2.ensures) (form c))
+    (subst (λ i. IsForm f (record { first = x.first; torus = c.mul-h.result; weyl = i; second = c.in_ok-v.v })) (sym c.w-2.ensures) form)
 
 pub returns-clause-times : goal.returns-clause-times
 returns-clause-times c =
     let f = c.args.frame.now in
     let x = c.args.f.now in
     let t = c.args.t.now in
+    let product = torus_product f c.lawful.ensures c.frame.inside.field c.h.result.now x.torus c.torus_past_word.result c.mul-h.result (ap (λ (z : SignedFrame). z.field) c.frame.view_is) c.h.ensures c.requires.form.long c.mul-h.ensures.joined in
+    let form =
+    torus_form f c.lawful.ensures x c.torus_past_word.result c.mul-h.result c.in_ok-v.v c.requires.form product c.in_ok-v.ensures.entries
+    (subst (λ v. (k : ℕ) → slice_index_or v k 0 ≡ 0 → slice_index_or c.in_ok-v.v k 0 ≡ 0) c.v.ensures c.in_ok-v.ensures.zeros) in
     let p = c.in_ok-word.word.items in
     let least = subst (λ w. IsLeastWord f.datum p w) c.w.ensures (subst (λ z. IsLeastWord z.datum p c.w.result.now) c.frame.view_is c.in_ok-word.ensures) in
     let passes = subst (λ w. JoinedInGroup f (map N w ++ H t ∷ []) (H c.torus_past_word.result ∷ map N w)) c.deref.ensures.value c.torus_past_word.ensures.joined in
@@ -42,4 +37,4 @@ returns-clause-times c =
     subst (IsTimes f x (H t ∷ [])) (sym c.new.ensures)
     (subst (λ i. IsTimes f x (H t ∷ []) (record { first = i; torus = c.mul-h.result; weyl = c.w-2.result.now; second = c.in_ok-v.v })) (sym (c.in_ok-u.ensures ∙ c.u.ensures))
     (subst (λ i. IsTimes f x (H t ∷ []) (record { first = x.first; torus = c.mul-h.result; weyl = i; second = c.in_ok-v.v })) (sym c.w-2.ensures)
-    (torus_times f c.lawful.ensures x t c.torus_past_word.result c.mul-h.result c.in_ok-v.v p (form c) (least.spells, least.shortest) passes (product c) behind)))
+    (torus_times f c.lawful.ensures x t c.torus_past_word.result c.mul-h.result c.in_ok-v.v p form (least.spells, least.shortest) passes product behind)))
