@@ -1,5 +1,5 @@
 -- Lists of elements in the words of forms: letters behind a list, the two parts of a split, and letters that are moved.
-use Rattle.std.proofs.Common.{◌≡◌, ℕ, zero, suc, ◌+◌, ◌-◌, ◌<◌, ◌≤◌, ℤ, pos, negsuc, ◌<ℤ◌, Bool, true, false, cond, not, Ok, List, [], ◌∷◌, ◌++◌, map, length, get_or, take, filter, refl, sym, ap, ap₂, subst, ◌∙◌, arith}
+use Rattle.std.proofs.Common.{◌≡◌, ℕ, zero, suc, ◌+◌, ◌-◌, ◌<◌, ℤ, pos, negsuc, ◌<ℤ◌, Bool, true, false, not, List, [], ◌∷◌, ◌++◌, map, length, get_or, take, filter, refl, sym, ap, subst, ◌∙◌, arith}
 use Rattle.std.specs.Prelude.{nat_abs, nat_lt, nat_eq}
 use Rattle.std.specs.List.{All, AllByRecursion}
 use Rattle.std.proofs.lemmas.Int.{ints}
@@ -9,8 +9,7 @@ use Rattle.std.proofs.lemmas.Option.{unwrap_or-slice_get}
 use Rattle.lie_ring.specs.Rings.{RingOn, Fits}
 use Rattle.lie_field.specs.Quotient.{order}
 use Rattle.lie_field.specs.FieldRing.{field_ring, field_is_ring}
-use Rattle.lie_datum.specs.declared.root_pair.Root.{Root}
-use Rattle.lie_datum.specs.RootList.{RootDatum, IsNumber, root_of}
+use Rattle.lie_datum.specs.RootList.{IsNumber, root_of}
 use Rattle.lie_datum.proofs.HeightLemmas.{positive_number}
 use Rattle.lie_datum.specs.Numbers.{number_at}
 use Rattle.lie_datum.proofs.NumberLemmas.{some_within}
@@ -45,7 +44,7 @@ use Rattle.lie_unip.proofs.WordLemmas.{word_lawful}
 use Rattle.std.proofs.lemmas.Bool.Decides.{nat_tests}
 use Rattle.lie_bruhat.specs.Products.{ZeroElsewhere}
 use Rattle.lie_bruhat.proofs.FormLemmas.{dropped_zeros, listed}
-use Rattle.lie_bruhat.proofs.PassLemmas.{Passes, joined_equal, joined_before, joined_behind, passes_none, passes_append, passes_through, inverse_before, inverse_passes}
+use Rattle.lie_bruhat.proofs.PassLemmas.{Passes, joined_before, joined_behind, passes_none, passes_append, passes_through, inverse_before, inverse_passes}
 
 -- the elements that aren't chosen are 0
 chosen_zero : (choice : ℕ → Bool) (s k : ℕ) (u : List ℕ) → choice (s + k) ≡ false → get_or (chosen choice 0 s u) k 0 ≡ 0

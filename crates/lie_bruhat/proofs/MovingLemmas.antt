@@ -1,18 +1,18 @@
 -- The rules of one letter by numbers: n_i and root letters, signs, and torus letters.
-use Rattle.std.proofs.Common.{◌≡◌, ℕ, zero, suc, ◌<◌, ◌≤◌, ℤ, pos, negsuc, ◌+ℤ◌, List, [], ◌∷◌, ◌++◌, map, refl, sym, ap, ap₂, subst, ◌∙◌, arith, ⊎_elim, ◌⊎◌, ◌+◌, ◌-◌, get_or, drop}
+use Rattle.std.proofs.Common.{◌≡◌, ℕ, zero, suc, ◌<◌, ◌≤◌, ℤ, pos, negsuc, List, [], ◌∷◌, refl, sym, ap, ap₂, subst, ◌∙◌, arith, ◌+◌, ◌-◌, get_or, drop}
 use Rattle.std.proofs.lemmas.List.{drop_more}
 use Rattle.std.proofs.Math.Seq.{drop-length}
 use Rattle.lie_base.specs.Below.{at_number}
 use Rattle.lie_field.specs.FiniteField.{FiniteField}
 use Rattle.lie_field.specs.Quotient.{order, mul, neg, of_int}
 use Rattle.lie_field.specs.FieldRing.{field_ring, field_is_ring}
-use Rattle.lie_field.specs.Elements.{Elem, elem_mul, elem_int, elem_mul-number, elem_int-number}
-use Rattle.lie_datum.specs.RootDatum.{reflected, simple, simple_root, simple_coroot, IsSimpleIndex}
+use Rattle.lie_field.specs.Elements.{Elem, elem_mul, elem_mul-number, elem_int-number}
+use Rattle.lie_datum.specs.RootDatum.{reflected, simple_root, simple_coroot, IsSimpleIndex}
 use Rattle.lie_datum.specs.RootList.{RootDatum, IsLoaded, IsNumber, root_of}
 use Rattle.lie_datum.proofs.SignedRoots.{same_number}
 use Rattle.lie_const.specs.Signs.{eta_of}
 use Rattle.lie_letters.specs.declared.letter.Letter.TheVariants.{X as CodeX, N as CodeN}
-use Rattle.lie_letters.specs.Names.{RootName, Index, signed_number, simple_name, reflect_name}
+use Rattle.lie_letters.specs.Names.{signed_number, simple_name, reflect_name}
 use Rattle.lie_letters.specs.Letters.{X, H, N}
 use Rattle.lie_letters.specs.SignedFrames.{SignedFrame, unsigned, sign_at, IsLawfulSigned}
 use Rattle.lie_letters.specs.GroupRelations.{S7}
@@ -27,14 +27,13 @@ use Rattle.lie_letters.specs.Frames.{setting, dim}
 use Rattle.lie_letters.proofs.RootLetterLemmas.{passing_joined}
 use Rattle.lie_letters.proofs.SettingLaws.{frame_laws}
 use Rattle.lie_letters.specs.Torus.{each_mul, torus_mul, torus_inv}
-use Rattle.lie_letters.specs.Characters.{powers}
-use Rattle.lie_letters.specs.Frames.{FrameData, coroot_at, character_at}
+use Rattle.lie_letters.specs.Frames.{coroot_at, character_at}
 use Rattle.lie_letters.specs.Entries.{times_each, inverses, cocharacter, reflected as reflected_torus}
 use Rattle.lie_letters.specs.Spelled.{numbers}
 use Rattle.lie_letters.proofs.TorusLemmas.{torus_of, numbers-inverses}
 use Rattle.lie_letters.proofs.CharacterLemmas.{character_at-number, powers-numbers, character_nonzero}
 use Rattle.lie_letters.proofs.ReflectionLemmas.{vector_simple, length-simple_coroot}
-use Rattle.lie_field.specs.Elements.{NonZero, as_nonzero, as_nonzero-element, unit_mul, unit_inv}
+use Rattle.lie_field.specs.Elements.{NonZero, as_nonzero, as_nonzero-element, unit_mul}
 use Rattle.lie_bruhat.specs.WeylWords.{reflect_torus}
 use Rattle.lie_bruhat.proofs.RulesHold.{torus_passes_weyl}
 use Rattle.lie_bruhat.proofs.ShapeLemmas.{x_n}

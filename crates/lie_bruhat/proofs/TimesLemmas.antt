@@ -1,8 +1,7 @@
 -- Forms of longer words: the products compose, and a word may be put for one that it is joined to.
-use Rattle.std.proofs.Common.{◌≡◌, ℕ, List, [], ◌∷◌, ◌++◌, length, sym, ap, subst, ◌∙◌, append_assoc}
+use Rattle.std.proofs.Common.{ℕ, List, [], ◌++◌, sym, subst, ◌∙◌, append_assoc}
 use Rattle.std.proofs.lemmas.List.{append-nil}
 use Rattle.lie_datum.specs.RootList.{IsLoaded}
-use Rattle.lie_weyl.specs.WeylElement.{Spells, word_length}
 use Rattle.lie_weyl.proofs.Words.{is_word, are_letters}
 use Rattle.lie_weyl.proofs.LengthLemmas.{reduced, length_same}
 use Rattle.lie_weyl.proofs.ElementLemmas.{respelled}

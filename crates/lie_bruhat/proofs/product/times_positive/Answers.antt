@@ -1,4 +1,4 @@
-use Rattle.std.proofs.Common.{◌≡◌, ◌++◌, ◌∷◌, [], length, ap, sym, subst, ◌∙◌, arith}
+use Rattle.std.proofs.Common.{◌++◌, ◌∷◌, [], length, subst, ◌∙◌}
 use Rattle.std.specs.Prelude.{nat_abs, nat_lt}
 use Rattle.lie_field.specs.FieldRing.{field_ring}
 use Rattle.lie_letters.specs.PositiveTerms.{positive_terms}

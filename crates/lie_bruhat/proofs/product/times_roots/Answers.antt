@@ -1,11 +1,9 @@
-use Rattle.std.proofs.Common.{◌≡◌, ◌++◌, length, ap, sym, subst, ◌∙◌, IfOk}
-use Rattle.std.specs.Prelude.{nat_lt, List}
+use Rattle.std.proofs.Common.{◌++◌, length, subst, ◌∙◌}
+use Rattle.std.specs.Prelude.{nat_lt}
 use Rattle.lie_field.specs.FieldRing.{field_ring}
-use Rattle.lie_letters.specs.declared.letter.Letter.{Letter}
 use Rattle.lie_letters.specs.PositiveTerms.{positive_terms}
 use Rattle.lie_letters.specs.RingLetters.{full_word}
 use Rattle.lie_unip.specs.Collection.{IsCollected}
-use Rattle.lie_unip.specs.Forms.{FormData, IsFormOf, StandsFor}
 use Rattle.lie_bruhat.proofs.ListLemmas.{letters, lists_joined}
 use Rattle.lie_bruhat.proofs.SettledLemmas.{settled_times, settled_parts}
 use Rattle.lie_bruhat.proofs.product.times_roots.Goals as goal
