@@ -1,16 +1,15 @@
 -- The braid relation of the `n_i`, and words of least length.
-use Rattle.std.proofs.Common.{◌≡◌, ℕ, suc, zero, ◌≤◌, ◌<◌, ◌+◌, ◌⊎◌, inl, inr, List, [], ◌∷◌, ◌++◌, refl, sym, ◌∙◌, ap, subst, append_assoc, arith}
+use Rattle.std.proofs.Common.{◌≡◌, ℕ, suc, zero, ◌≤◌, ◌<◌, ◌⊎◌, inl, inr, List, [], ◌∷◌, ◌++◌, refl, sym, ◌∙◌, ap, subst, append_assoc, arith}
 use Rattle.lie_letters.specs.Setting.{Setting}
 use Rattle.lie_letters.specs.Laws.{Laws}
-use Rattle.lie_letters.specs.Letters.{Letter, Word, X, H, N, Ninv}
+use Rattle.lie_letters.specs.Letters.{Word, X, N}
 use Rattle.lie_bruhat.specs.WeylWords.{n_word, carried, carried_sign}
 use Rattle.lie_bruhat.proofs.InTurn.{alternating, last_in_turn, lowered, Lowers}
-use Rattle.lie_letters.specs.Relations.{S0-root, S0-torus, S1, S2, S3, S4}
 use Rattle.lie_letters.specs.SignedFrames.{Sign}
 use Rattle.lie_bruhat.specs.SignLaws.{SignLaws}
-use Rattle.lie_letters.specs.GroupRelations.{GroupRelation, plain, S5, S5-inverse, S6, S7, GroupJoined}
-use Rattle.lie_letters.specs.Chains.{StepBy, JoinedBy, same, next}
-use Rattle.lie_letters.proofs.ChainLemmas.{trans, flip, behind, before, both}
+use Rattle.lie_letters.specs.GroupRelations.{GroupJoined}
+use Rattle.lie_letters.specs.Chains.{same}
+use Rattle.lie_letters.proofs.ChainLemmas.{trans, flip, behind, both}
 use Rattle.lie_bruhat.proofs.FieldLemmas
 use Rattle.lie_bruhat.proofs.RuleLemmas.{at_front, cons, walk}
 use Rattle.lie_bruhat.proofs.RuleLemmas

@@ -1,9 +1,9 @@
 -- The braid values of a lawful frame, as products of signs along two indices in turn.
-use Rattle.std.proofs.Common.{◌≡◌, ℕ, zero, suc, ◌-◌, ◌+◌, ◌<◌, ◌≤◌, ℤ, pos, ◌*ℤ◌, List, [], ◌∷◌, ◌++◌, map, refl, sym, ap, ap₂, subst, ◌∙◌, arith, ◌⊎◌, inl, inr, ⊎_elim}
+use Rattle.std.proofs.Common.{◌≡◌, ℕ, zero, suc, ◌-◌, ◌<◌, ◌≤◌, pos, ◌*ℤ◌, List, [], ◌∷◌, ◌++◌, refl, sym, ap, ap₂, ◌∙◌, arith, ◌⊎◌, inl, inr, ⊎_elim}
 use Rattle.std.proofs.Math.IntN.{*ℤ_comm}
 use Rattle.std.proofs.lemmas.Bool.{cases_eq}
 use Rattle.lie_field.specs.Elements.{one_elem, elem_int}
-use Rattle.lie_datum.specs.RootDatum.{cartan, IsSimpleIndex}
+use Rattle.lie_datum.specs.RootDatum.{cartan}
 use Rattle.lie_datum.specs.RootList.{RootDatum, IsLoaded}
 use Rattle.lie_weyl.specs.Orders.{IsOrder, order_for}
 use Rattle.lie_weyl.proofs.OrderLemmas.{order_of_product}

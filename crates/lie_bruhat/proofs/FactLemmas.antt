@@ -1,13 +1,11 @@
 -- The facts that the Bruhat product rests on, from the laws of the roots and from the collector's splits.
-use Rattle.std.proofs.Common.{◌≡◌, ℕ, suc, zero, ◌<◌, List, [], ◌∷◌, ◌++◌, Bool, true, false, refl, sym, ◌∙◌, ap, subst, length, arith, ◌≤◌, ◌⊎◌, inl, inr, Option, Some}
+use Rattle.std.proofs.Common.{◌≡◌, ℕ, ◌<◌, List, [], ◌∷◌, ◌++◌, Bool, true, false, refl, sym, ◌∙◌, ap, subst, length, arith, ◌⊎◌, inl, inr, Some}
 use Rattle.std.proofs.Math.IntN.{ℤ}
 use Rattle.lie_letters.specs.Setting.{Setting}
 use Rattle.lie_letters.specs.Laws.{Laws}
-use Rattle.lie_letters.specs.Letters.{Word, X}
 use Rattle.lie_bruhat.specs.WeylWords.{n_word, carried, carried_sign}
-use Rattle.lie_letters.specs.Relations.{S0-root, S0-torus, S1, S2, S3, S4}
 use Rattle.lie_letters.specs.SignedFrames.{Sign}
-use Rattle.lie_letters.specs.GroupRelations.{GroupRelation, plain, S5, S5-inverse, S6, S7, GroupJoined}
+use Rattle.lie_letters.specs.GroupRelations.{GroupJoined}
 use Rattle.lie_letters.specs.RootSystems.{RootSystem, RootLaws}
 use Rattle.lie_bruhat.proofs.InTurn.{along}
 use Rattle.lie_bruhat.proofs.InTurn.{alternating, last_in_turn}
@@ -19,9 +17,8 @@ use Rattle.lie_bruhat.proofs.LengthLemmas
 use Rattle.lie_bruhat.proofs.RightLemmas
 use Rattle.lie_bruhat.proofs.LeastWordLemmas.{roots_of}
 use Rattle.lie_bruhat.proofs.LeastWordLemmas
-use Rattle.lie_bruhat.proofs.MoveLemmas.{xs_word}
 use Rattle.lie_bruhat.specs.SignLaws.{SignLaws}
-use Rattle.lie_bruhat.proofs.ShapeLemmas.{BruhatFacts, IsShort, RootLetters, AllPositive, Without}
+use Rattle.lie_bruhat.proofs.ShapeLemmas.{BruhatFacts, IsShort}
 use Rattle.lie_letters.proofs.ChainLemmas.{before}
 use Rattle.lie_bruhat.proofs.SplitLemmas.{Splits, split_first, split_last}
 

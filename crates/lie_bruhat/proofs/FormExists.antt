@@ -1,18 +1,15 @@
 -- Each word of a lawful frame has a form.
-use Rattle.std.proofs.Common.{List, [], ◌∷◌, ◌++◌, sym, ap, subst, ◌∙◌}
+use Rattle.std.proofs.Common.{[], ◌∷◌, ◌++◌, ap, subst}
 use Rattle.std.proofs.lemmas.List.{append-nil}
 use Rattle.lie_letters.specs.Frames.{setting, dim}
 use Rattle.lie_letters.specs.Torus.{torus_one}
-use Rattle.lie_letters.specs.Setting.{Setting}
 use Rattle.lie_letters.specs.Letters.{Word, H}
 use Rattle.lie_letters.specs.SignedFrames.{SignedFrame, unsigned, sign_at, IsLawfulSigned}
 use Rattle.lie_letters.specs.GroupRelations.{GroupJoined}
-use Rattle.lie_letters.specs.Spelled.{IsWordOver}
-use Rattle.lie_letters.specs.declared.letter.Letter.{Letter}
 use Rattle.lie_letters.proofs.ChainLemmas.{trans, flip}
 use Rattle.lie_letters.proofs.SettingLaws.{frame_laws}
 use Rattle.lie_letters.proofs.SpelledLemmas.{word_of}
-use Rattle.lie_unip.specs.Forms.{FormData, IsFormOf, EveryWordHasForm}
+use Rattle.lie_unip.specs.Forms.{EveryWordHasForm}
 use Rattle.lie_bruhat.specs.WeylWords.{n_word}
 use Rattle.lie_bruhat.proofs.RuleLemmas.{torus_drop}
 use Rattle.lie_bruhat.proofs.ShapeLemmas.{Shape, shape, takes_word}

@@ -1,9 +1,8 @@
 -- Lists of elements of positive root letters: what a word of positive root letters is collected to, without the letters that are 0.
-use Rattle.std.proofs.Common.{◌≡◌, ℕ, suc, ◌-◌, ◌+◌, ◌^◌, ◌<◌, ◌≤◌, eqb, Bool, true, false, cond, not, T, Option, None, Some, pos, List, [], ◌∷◌, ◌++◌, map, length, get_or, filter, refl, sym, ap, ap₂, subst, ◌∙◌, arith}
+use Rattle.std.proofs.Common.{◌≡◌, ℕ, ◌+◌, ◌^◌, ◌<◌, eqb, Bool, true, false, cond, not, Some, List, [], ◌∷◌, length, filter, refl, sym, subst, arith}
 use Rattle.std.specs.Prelude.{nat_eq, nat_lt}
 use Rattle.std.specs.Option.{unwrap_or}
 use Rattle.std.specs.Map.{lookup}
-use Rattle.std.specs.List.{All, range_with_len}
 use Rattle.std.proofs.lemmas.Bool.Decides.{nat_tests}
 use Rattle.std.proofs.lemmas.Bool.{lt-ltb}
 use Rattle.std.proofs.lemmas.List.FromFn.{get_or-map-range_with_len, length-map-range_with_len}
@@ -13,14 +12,12 @@ use Rattle.lie_field.specs.FiniteField.{FiniteField}
 use Rattle.lie_field.specs.Quotient.{order}
 use Rattle.lie_field.specs.FieldRing.{field_ring, field_is_ring}
 use Rattle.lie_letters.specs.Frames.{FrameData, setting, IsLawfulFrame}
-use Rattle.lie_letters.specs.Setting.{Setting}
 use Rattle.lie_letters.specs.RingLetters.{RingLetter, IsRingWord, OfElements, full_word}
-use Rattle.lie_letters.specs.RingRelations.{RingJoined}
 use Rattle.lie_letters.specs.PositiveTerms.{positive_terms}
 use Rattle.lie_letters.specs.Spelled.{JoinedSpelled, root_letters}
 use Rattle.lie_letters.proofs.ChainLemmas.{trans}
 use Rattle.lie_letters.proofs.BridgeLemmas.{IsWordOver-ring, joined_over_ring}
-use Rattle.lie_unip.specs.Collection.{Ends, at_end, IsCollected, AreEntries, AreCollectable, elements}
+use Rattle.lie_unip.specs.Collection.{at_end, IsCollected, AreEntries, AreCollectable, elements}
 use Rattle.lie_unip.specs.Dropping.{Dropped, nothing, kept, dropped}
 use Rattle.lie_unip.specs.Forms.{is_nonzero, nonzero_letters}
 use Rattle.lie_unip.proofs.DatumLemmas.{table_collectable}
@@ -31,7 +28,7 @@ use Rattle.lie_bruhat.proofs.ShapeLemmas.{RootLetters}
 use Rattle.lie_bruhat.proofs.FrameSplits.{HaveNumbers, letters_of}
 
 -- letters that are 0 are left out
-dropped_zeros : (F : FiniteField) (w : List (RingLetter ℕ)) → Dropped (field_ring F) w (filter is_nonzero w)
+pub dropped_zeros : (F : FiniteField) (w : List (RingLetter ℕ)) → Dropped (field_ring F) w (filter is_nonzero w)
 dropped_zeros F [] = nothing
 dropped_zeros F (x ∷ w) = by (nat_eq x.1 0) refl (dropped_zeros F w)
   where

@@ -1,8 +1,7 @@
 -- A shape is joined to the word of a form, along each shortest word of its Weyl element.
-use Rattle.std.proofs.Common.{◌≡◌, ℕ, suc, ◌+◌, ◌<◌, ◌≤◌, eqb, Bool, true, false, cond, not, None, Some, ℤ, pos, List, [], ◌∷◌, ◌++◌, map, length, get_or, refl, sym, ap, ap₂, subst, ◌∙◌, arith, ⊎_elim, append_assoc, ◌⊎◌}
-use Rattle.std.proofs.lemmas.Int.{ints}
+use Rattle.std.proofs.Common.{◌≡◌, ℕ, suc, ◌<◌, ◌≤◌, eqb, Bool, true, false, cond, not, None, Some, pos, List, [], ◌∷◌, ◌++◌, map, length, get_or, refl, sym, ap, ap₂, subst, ◌∙◌, arith, ⊎_elim, append_assoc, ◌⊎◌}
 use Rattle.std.proofs.lemmas.Bool.Decides.{nat_tests}
-use Rattle.std.proofs.lemmas.Bool.{ltb-true, true≢false}
+use Rattle.std.proofs.lemmas.Bool.{true≢false}
 use Rattle.std.proofs.lemmas.List.{map-append, append-nil, get_or-map, get_or_past}
 use Rattle.std.proofs.lemmas.Option.{unwrap_or-slice_get}
 use Rattle.lie_datum.specs.declared.root_pair.Root.{Root}
@@ -16,15 +15,14 @@ use Rattle.lie_datum.proofs.NumberLemmas.{some_within}
 use Rattle.lie_weyl.specs.WeylElement.{moved, is_negative, Spells, SameProduct, word_length}
 use Rattle.lie_letters.specs.declared.letter.Letter.TheVariants.{X as CodeX, H as CodeH, N as CodeN}
 use Rattle.lie_letters.specs.Names.{RootName, Index, root_at, signed_number, is_negative_name}
-use Rattle.lie_letters.specs.Frames.{setting, dim}
+use Rattle.lie_letters.specs.Frames.{setting}
 use Rattle.lie_letters.specs.Setting.{Setting}
-use Rattle.lie_letters.specs.Letters.{Word, X, H, N}
+use Rattle.lie_letters.specs.Letters.{Word, H}
 use Rattle.lie_letters.specs.SignedFrames.{SignedFrame, unsigned, sign_at, IsLawfulSigned}
 use Rattle.lie_letters.specs.GroupRelations.{GroupJoined}
 use Rattle.lie_letters.specs.Relations.{Joined}
 use Rattle.lie_letters.specs.RingLetters.{RingLetter, IsRingWord}
 use Rattle.lie_letters.specs.Spelled.{spelled, numbers, root_letters}
-use Rattle.lie_letters.specs.Chains.{same}
 use Rattle.lie_letters.proofs.ChainLemmas.{trans, flip, behind, before}
 use Rattle.lie_letters.proofs.NameLemmas.{named_is, name_of_number, same_number, at_root}
 use Rattle.lie_letters.proofs.SettingLaws.{frame_laws}
@@ -32,8 +30,8 @@ use Rattle.lie_letters.proofs.SpelledLemmas.{words_same}
 use Rattle.lie_letters.proofs.TorusLemmas.{length-numbers, AreUnits-numbers}
 use Rattle.lie_unip.specs.Collection.{elements}
 use Rattle.lie_unip.specs.Splitting.{kept_by}
-use Rattle.lie_unip.specs.Forms.{FormData, IsForm, IsShortest, ZeroWhere, form_word, nonzero_letters}
-use Rattle.lie_unip.proofs.DatumLemmas.{number_within, length-kept_by}
+use Rattle.lie_unip.specs.Forms.{FormData, IsForm, IsShortest, ZeroWhere, form_word}
+use Rattle.lie_unip.proofs.DatumLemmas.{number_within}
 use Rattle.lie_bruhat.specs.WeylWords.{n_word, carried}
 use Rattle.lie_bruhat.proofs.RuleLemmas.{cons}
 use Rattle.lie_bruhat.proofs.MoveLemmas.{xs_word, moved_xs, scaled_xs, roots_to_front}

@@ -1,5 +1,5 @@
 -- The signs of a lawful frame, read in the field, and the product of the signs along a word.
-use Rattle.std.proofs.Common.{◌≡◌, ℕ, suc, ◌<◌, ℤ, pos, negsuc, neg_ℤ, ◌*ℤ◌, ◌<ℤ◌, ◌≤ℤ◌, List, [], ◌∷◌, ◌++◌, map, length, is_some, refl, sym, ap, ap₂, ◌∙◌, arith, ◌⊎◌, ⊎_elim}
+use Rattle.std.proofs.Common.{◌≡◌, ℕ, suc, ℤ, pos, negsuc, neg_ℤ, ◌*ℤ◌, List, [], ◌∷◌, ◌++◌, map, is_some, refl, sym, ap, ◌∙◌, arith, ⊎_elim}
 use Rattle.std.specs.Option.{unwrap_or}
 use Rattle.std.proofs.lemmas.Int.{ints, by_lt_z}
 use Rattle.std.proofs.lemmas.List.{map-append}
@@ -8,16 +8,16 @@ use Rattle.lie_base.proofs.RingSolver.{ring, var, num, ◌⊗◌}
 use Rattle.lie_field.specs.FiniteField.{FiniteField}
 use Rattle.lie_field.specs.Quotient.{order}
 use Rattle.lie_field.specs.FieldRing.{field_is_ring}
-use Rattle.lie_field.specs.Elements.{Elem, one_elem, elem_mul, elem_int}
-use Rattle.lie_datum.specs.RootDatum.{opposite, reflected, simple, IsSimpleIndex}
-use Rattle.lie_datum.specs.RootList.{RootDatum, IsLoaded, IsNumber, root_of}
+use Rattle.lie_field.specs.Elements.{one_elem, elem_mul, elem_int}
+use Rattle.lie_datum.specs.RootDatum.{opposite, reflected}
+use Rattle.lie_datum.specs.RootList.{RootDatum, IsLoaded, root_of}
 use Rattle.lie_datum.proofs.NumberLemmas.{place_within}
 use Rattle.lie_datum.proofs.SignedRoots.{same_number, opposite_number}
 use Rattle.lie_datum.proofs.SimplesFirst.{simples_first_holds}
 use Rattle.lie_const.specs.Signs.{Signs, IsGoodSign, eta_of, image}
 use Rattle.lie_letters.specs.Braids.{carried_sign as walked}
 use Rattle.lie_const.proofs.FoundRoots.{number_of_is}
-use Rattle.lie_letters.specs.Names.{RootName, Index, root_at, simple_name, opposite_name, reflect_name, signed_number}
+use Rattle.lie_letters.specs.Names.{RootName, Index, simple_name, opposite_name, reflect_name, signed_number}
 use Rattle.lie_letters.specs.Frames.{setting}
 use Rattle.lie_letters.specs.SignedFrames.{SignedFrame, unsigned, sign_at, IsLawfulSigned}
 use Rattle.lie_letters.proofs.NameLemmas.{named_is, index_is, simple_at, opposite_at, reflect_at}

@@ -1,8 +1,7 @@
 -- In a lawful frame each word of positive root letters is split by each test of the roots: it is collected in the order in which the
 -- roots that pass come first.
-use Rattle.std.proofs.Common.{◌≡◌, ℕ, suc, ◌-◌, ◌<◌, ◌≤◌, ltb, T, Bool, true, false, cond, Option, None, Some, ℤ, pos, ◌<ℤ◌, nat_abs, List, [], ◌∷◌, ◌++◌, map, length, refl, sym, ap, ap₂, subst, ◌∙◌, arith, append_assoc}
+use Rattle.std.proofs.Common.{◌≡◌, ℕ, ◌-◌, ◌≤◌, ltb, T, Bool, true, false, cond, Option, None, Some, pos, nat_abs, List, [], ◌∷◌, ◌++◌, map, length, refl, sym, ap, ap₂, subst, ◌∙◌, arith, append_assoc}
 use Rattle.std.proofs.lemmas.Int.{ints}
-use Rattle.std.proofs.lemmas.List.{map-append}
 use Rattle.std.proofs.lemmas.Bool.{lt-ltb}
 use Rattle.std.specs.Prelude.{nat_lt}
 use Rattle.lie_base.specs.Below.{Below, same_below, is_below}
@@ -12,11 +11,10 @@ use Rattle.lie_datum.specs.RootList.{RootDatum, all_roots}
 use Rattle.lie_datum.specs.Numbers.{place}
 use Rattle.lie_datum.proofs.NumberLemmas.{place_within}
 use Rattle.lie_letters.specs.declared.letter.Letter.TheVariants.{X as CodeX}
-use Rattle.lie_letters.specs.Chains.{JoinedBy}
 use Rattle.lie_letters.specs.Setting.{Setting}
-use Rattle.lie_letters.specs.Names.{RootName, signed_number, is_negative_name}
+use Rattle.lie_letters.specs.Names.{RootName, signed_number}
 use Rattle.lie_letters.specs.Frames.{FrameData, setting, IsLawfulFrame}
-use Rattle.lie_letters.specs.Letters.{Letter, Word, X, H, N, Ninv}
+use Rattle.lie_letters.specs.Letters.{Word, X, H, N, Ninv}
 use Rattle.lie_letters.specs.Relations.{Joined}
 use Rattle.lie_letters.specs.SignedFrames.{Sign}
 use Rattle.lie_letters.specs.GroupRelations.{GroupJoined}
@@ -30,7 +28,7 @@ use Rattle.lie_letters.proofs.CollectingLemmas.{positive_abs}
 use Rattle.lie_letters.proofs.BridgeLemmas.{IsWordOver-ring, joined_over_ring}
 use Rattle.lie_letters.proofs.GroupSpelledLemmas.{grouped}
 use Rattle.lie_letters.proofs.SpelledLemmas.{words_same}
-use Rattle.lie_unip.specs.Collection.{Ends, AreCollectable}
+use Rattle.lie_unip.specs.Collection.{AreCollectable}
 use Rattle.lie_unip.specs.Splitting.{kept_first}
 use Rattle.lie_unip.proofs.DatumLemmas.{table_collectable, number_within}
 use Rattle.lie_unip.proofs.SplitLemmas.{kept_first_order}
@@ -40,7 +38,7 @@ use Rattle.lie_unip.proofs.JoinedLemmas.{ends_joined}
 use Rattle.lie_bruhat.proofs.MoveLemmas.{xs_word}
 use Rattle.lie_bruhat.proofs.ShapeLemmas.{AllPositive}
 use Rattle.lie_bruhat.proofs.ShapeLemmas.{RootLetters}
-use Rattle.lie_bruhat.proofs.SplitLemmas.{AllGive, SplitBy, Splits}
+use Rattle.lie_bruhat.proofs.SplitLemmas.{AllGive, Splits}
 
 pub xs-append : (S : Setting) (u v : RootLetters S) → xs_word S (u ++ v) ≡ xs_word S u ++ xs_word S v
 xs-append S [] v = refl

@@ -1,25 +1,24 @@
 -- n along any word of least length: the theorem for the roots of a setting.
-use Rattle.std.proofs.Common.{◌≡◌, ℕ, suc, zero, List, [], ◌∷◌, ◌++◌, Bool, true, false, refl, sym, ◌∙◌, ap, ◌⊎◌, inl, inr, Option, Some, length, arith, subst, append_assoc, length-append}
+use Rattle.std.proofs.Common.{◌≡◌, ℕ, suc, zero, List, [], ◌∷◌, ◌++◌, Bool, true, false, refl, sym, ◌∙◌, ap, ◌⊎◌, inl, inr, Some, length, arith, subst, append_assoc, length-append}
 use Rattle.std.proofs.Math.IntN.{ℤ}
 use Rattle.lie_letters.specs.Setting.{Setting}
 use Rattle.lie_letters.specs.Laws.{Laws}
 use Rattle.lie_letters.specs.Letters.{Word, N, H}
 use Rattle.lie_bruhat.specs.WeylWords.{n_word, carried, carried_sign, moved_torus}
-use Rattle.lie_letters.specs.Relations.{S0-root, S0-torus, S1, S2, S3, S4}
 use Rattle.lie_letters.specs.SignedFrames.{Sign}
 use Rattle.lie_bruhat.specs.SignLaws.{SignLaws}
-use Rattle.lie_letters.specs.GroupRelations.{GroupRelation, plain, S5, S5-inverse, S6, S7, GroupJoined}
-use Rattle.lie_letters.specs.Chains.{StepBy, JoinedBy, same}
+use Rattle.lie_letters.specs.GroupRelations.{GroupJoined}
+use Rattle.lie_letters.specs.Chains.{same}
 use Rattle.lie_letters.proofs.ChainLemmas.{trans, flip, behind, before}
 use Rattle.lie_bruhat.proofs.MoveLemmas
 use Rattle.lie_bruhat.proofs.WeylLetterLemmas
 use Rattle.lie_bruhat.proofs.RuleLemmas.{cons}
 use Rattle.lie_letters.specs.RootSystems.{RootSystem, RootLaws}
 use Rattle.lie_bruhat.proofs.InTurn.{along, backwards, IsDescent}
-use Rattle.lie_bruhat.proofs.InTurn.{alternating, last_in_turn, lowered, Lowers}
+use Rattle.lie_bruhat.proofs.InTurn.{alternating, last_in_turn, lowered}
 use Rattle.lie_bruhat.proofs.BraidLemmas.{Reduction}
 use Rattle.lie_bruhat.proofs.BraidLemmas
-use Rattle.lie_bruhat.proofs.RankTwoLemmas.{IsTurn, turned_root}
+use Rattle.lie_bruhat.proofs.RankTwoLemmas.{IsTurn}
 use Rattle.lie_bruhat.proofs.ProductLemmas
 use Rattle.lie_letters.specs.RootSystems.{PositiveLaws}
 use Rattle.lie_bruhat.proofs.LengthLemmas.{first_of_list}

@@ -1,10 +1,9 @@
 -- The length of a product of simple reflections, and its descents.
-use Rattle.std.proofs.Common.{◌≡◌, ℕ, suc, zero, ◌+◌, ◌≤◌, ◌<◌, List, [], ◌∷◌, ◌++◌, Bool, true, false, refl, sym, ◌∙◌, ap, subst, arith, ◌⊎◌, inl, inr, length, Option, Some, None}
+use Rattle.std.proofs.Common.{◌≡◌, ℕ, suc, zero, ◌+◌, ◌≤◌, List, [], ◌∷◌, Bool, true, false, refl, sym, ◌∙◌, ap, arith, inl, inr, length, Option, Some, None}
 use Rattle.std.specs.Prelude.{cond}
 use mathlib.Core.Path.{fun_ext}
-use Rattle.lie_letters.specs.RootSystems.{RootSystem, RootLaws, IsNegative, PositiveLaws, AllPositive, Never, Once, here, there}
+use Rattle.lie_letters.specs.RootSystems.{RootSystem, RootLaws, PositiveLaws, AllPositive, Never, Once, here, there}
 use Rattle.lie_bruhat.proofs.InTurn.{along, backwards, IsDescent}
-use Rattle.lie_bruhat.proofs.InTurn.{alternating, last_in_turn, lowered, Lowers}
 use Rattle.lie_bruhat.proofs.ProductLemmas.{along_append, along_back, back_along, conjugated}
 
 pub count : {A : Type 0} → (A → Bool) → List A → ℕ

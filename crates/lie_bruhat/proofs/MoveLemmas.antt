@@ -1,16 +1,14 @@
 -- Moving torus letters and root letters past `n` along a word.
-use Rattle.std.proofs.Common.{◌≡◌, List, [], ◌∷◌, ◌++◌, refl, sym, ◌∙◌, ap, append_assoc}
+use Rattle.std.proofs.Common.{List, [], ◌∷◌, ◌++◌}
 use Rattle.lie_letters.specs.Setting.{Setting}
 use Rattle.lie_letters.specs.Laws.{Laws}
-use Rattle.lie_letters.specs.Letters.{Letter, Word, X, H, N}
-use Rattle.lie_bruhat.specs.WeylWords.{n_word, carried, carried_sign, reflect_torus, moved_torus}
-use Rattle.lie_letters.specs.Relations.{S0-root, S0-torus, S1, S2, S3, S4}
+use Rattle.lie_letters.specs.Letters.{Word, X, H, N}
+use Rattle.lie_bruhat.specs.WeylWords.{n_word, carried, carried_sign, moved_torus}
 use Rattle.lie_letters.specs.SignedFrames.{Sign}
-use Rattle.lie_letters.specs.GroupRelations.{GroupRelation, plain, S5, S5-inverse, S6, S7, GroupJoined}
-use Rattle.lie_letters.specs.Chains.{StepBy, JoinedBy, same, next}
-use Rattle.lie_letters.proofs.ChainLemmas.{trans, flip, behind, before}
-use Rattle.lie_bruhat.proofs.RuleLemmas.{cons, walk}
-use Rattle.lie_bruhat.proofs.RuleLemmas
+use Rattle.lie_letters.specs.GroupRelations.{GroupJoined}
+use Rattle.lie_letters.specs.Chains.{same}
+use Rattle.lie_letters.proofs.ChainLemmas.{trans}
+use Rattle.lie_bruhat.proofs.RuleLemmas.{cons}
 use Rattle.lie_bruhat.proofs.WeylLetterLemmas
 
 -- root letters alone: a list of roots and elements

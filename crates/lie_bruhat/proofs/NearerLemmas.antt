@@ -1,12 +1,12 @@
 -- A positive root that is not simple has a lower neighbour under a simple reflection.
-use Rattle.std.proofs.Common.{◌≡◌, ◌≢◌, ℕ, zero, suc, ◌+◌, ◌-◌, ◌*◌, ◌<◌, ◌≤◌, Bool, true, false, List, [], ◌∷◌, length, get_or, refl, sym, ap, ap₂, ◌∙◌, subst, arith, inl, inr, ◌⊎◌, ⊎_elim}
+use Rattle.std.proofs.Common.{◌≡◌, ℕ, zero, suc, ◌-◌, ◌*◌, ◌<◌, ◌≤◌, true, false, List, [], ◌∷◌, length, get_or, refl, sym, ap, ◌∙◌, subst, arith, inl, inr, ◌⊎◌, ⊎_elim}
 use Rattle.std.proofs.lemmas.Int.{ints, by_lt_z}
 use Rattle.std.proofs.Math.IntN.{pos-*ℤ-pos, *ℤ_comm}
 use Rattle.std.specs.Prelude.{ℤ, pos, negsuc, neg_ℤ, ◌+ℤ◌, ◌*ℤ◌, ◌≤ℤ◌, ◌<ℤ◌, unsigned_abs}
 use Rattle.lie_datum.specs.declared.root_pair.Root.{Root}
-use Rattle.lie_datum.specs.Vectors.{Vector, pairing, plus, times, minus, unit, combination, total, entry}
-use Rattle.lie_datum.specs.RootDatum.{Base, rank, vector, covector, root_pairing, simple, opposite, reflected, simple_coroot, simple_root, IsRoot, is_simple, IsPositive, IsSimpleIndex}
-use Rattle.lie_datum.specs.RootList.{RootDatum, all_roots, IsLoaded, form, height}
+use Rattle.lie_datum.specs.Vectors.{Vector, pairing, plus, times, unit, combination, total, entry}
+use Rattle.lie_datum.specs.RootDatum.{Base, vector, covector, simple, simple_coroot, simple_root, is_simple, IsSimpleIndex}
+use Rattle.lie_datum.specs.RootList.{RootDatum, all_roots, IsLoaded, height}
 use Rattle.lie_base.proofs.RingSolver.{ring, var, num, neg, ◌⊕◌, ◌⊗◌}
 use Rattle.lie_datum.proofs.Linear.{pairing-plus, pairing-times}
 use Rattle.lie_datum.proofs.Roots.{simple_vector, simple_covector}
@@ -14,7 +14,7 @@ use Rattle.lie_datum.proofs.FormLaw.{form_over, form_linear, form_same}
 use Rattle.lie_datum.proofs.RootPairLaw.{norm_positive}
 use Rattle.lie_datum.proofs.LoadedLaws.{short, first, all_simple, all_in, all_only}
 use Rattle.lie_letters.specs.Names.{RootName, Index, root_at, simple_name, opposite_name, reflect_name, is_negative_name}
-use Rattle.lie_letters.proofs.NameLemmas.{simple_at, index_is, index_of, at_root, same_name, opposite_at, reflect_at, opposite_twice}
+use Rattle.lie_letters.proofs.NameLemmas.{index_of, at_root, opposite_at, reflect_at, opposite_twice}
 use Rattle.lie_letters.proofs.RootSystemLemmas.{in_eight}
 use Rattle.lie_letters.proofs.PositiveRootLemmas.{stays_positive, positive_laws, not_negative, positive_opposite, negative_opposite}
 use Rattle.lie_letters.proofs.SettingLaws.{reflect_opposite}

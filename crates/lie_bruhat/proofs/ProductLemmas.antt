@@ -1,13 +1,11 @@
 -- Products of simple reflections, their inverses, and two descents.
-use Rattle.std.proofs.Common.{◌≡◌, ℕ, suc, zero, ◌+◌, ◌*◌, ◌≤◌, ◌<◌, List, [], ◌∷◌, ◌++◌, refl, sym, ◌∙◌, ap, subst, arith, ◌⊎◌, inl, inr, append_assoc}
+use Rattle.std.proofs.Common.{◌≡◌, ℕ, suc, zero, ◌<◌, List, [], ◌∷◌, ◌++◌, refl, sym, ◌∙◌, ap, subst, arith, ◌⊎◌, inl, inr}
 use Rattle.std.proofs.lemmas.Int.{ints}
-use Rattle.std.proofs.Math.IntN.{ℤ, pos, negsuc, ◌+ℤ◌, ◌-ℤ◌, neg_ℤ}
-use Rattle.std.specs.Prelude.{◌≤ℤ◌}
+use Rattle.std.proofs.Math.IntN.{ℤ, pos, negsuc, ◌+ℤ◌, neg_ℤ}
 use Rattle.lie_letters.specs.RootSystems.{RootSystem, RootLaws, times, IsSum, IsNegative}
 use Rattle.lie_bruhat.proofs.InTurn.{along, backwards, IsDescent}
-use Rattle.lie_bruhat.proofs.InTurn.{alternating, last_in_turn, lowered, Lowers}
+use Rattle.lie_bruhat.proofs.InTurn.{alternating, last_in_turn, Lowers}
 use Rattle.lie_bruhat.proofs.RankTwoLemmas.{times_one, times_zero, sum_along, sum_negative, turned_root, IsTurn}
-use Rattle.lie_bruhat.proofs.RankTwoLemmas
 use Rattle.lie_bruhat.proofs.BraidLemmas.{alternating-last}
 
 module _ (D : RootSystem) (laws : RootLaws D) where

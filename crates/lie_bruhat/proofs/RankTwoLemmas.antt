@@ -1,12 +1,12 @@
 -- Two simple roots: the roots in turn are sums of both, up to the last, which is the other simple root.
-use Rattle.std.proofs.Common.{◌≡◌, ℕ, suc, zero, ◌+◌, ◌*◌, ◌≤◌, ◌<◌, List, [], ◌∷◌, ◌++◌, refl, sym, ◌∙◌, ap, subst, arith, ◌⊎◌, inl, inr}
+use Rattle.std.proofs.Common.{◌≡◌, ℕ, suc, zero, ◌+◌, ◌*◌, ◌≤◌, List, [], ◌∷◌, refl, sym, subst, arith, ◌⊎◌, inl, inr}
 use Rattle.std.proofs.lemmas.Int.{ints}
-use Rattle.std.proofs.Math.IntN.{ℤ, pos, negsuc, ◌+ℤ◌, ◌-ℤ◌, ◌*ℤ◌, neg_ℤ}
+use Rattle.std.proofs.Math.IntN.{ℤ, pos, ◌+ℤ◌, ◌-ℤ◌, neg_ℤ}
 use Rattle.std.specs.Prelude.{◌≤ℤ◌, ◌-◌}
 use Rattle.std.proofs.Math.Dec.{T, leb, lit≤}
 use Rattle.lie_letters.specs.RootSystems.{RootSystem, RootLaws, times, IsSum, IsNegative}
-use Rattle.lie_bruhat.proofs.InTurn.{along, backwards}
-use Rattle.lie_bruhat.proofs.InTurn.{alternating, last_in_turn, lowered, Lowers}
+use Rattle.lie_bruhat.proofs.InTurn.{along}
+use Rattle.lie_bruhat.proofs.InTurn.{alternating, last_in_turn}
 
 pub times_sub : (x : ℕ) (a b : ℤ) → times x (a -ℤ b) ≡ (times x a -ℤ times x b)
 times_sub zero a b = refl

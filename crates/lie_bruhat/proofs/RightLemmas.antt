@@ -1,7 +1,7 @@
 -- The length of a product with a simple reflection on the right: longer exactly if the simple root stays positive.
-use Rattle.std.proofs.Common.{◌≡◌, ℕ, suc, zero, ◌+◌, List, [], ◌∷◌, ◌++◌, Bool, true, false, refl, sym, ◌∙◌, ap, subst, arith, ◌⊎◌, inl, inr}
-use Rattle.lie_letters.specs.RootSystems.{RootSystem, RootLaws, IsNegative, PositiveLaws}
-use Rattle.lie_bruhat.proofs.InTurn.{along, backwards, IsDescent}
+use Rattle.std.proofs.Common.{◌≡◌, ℕ, suc, List, [], ◌∷◌, ◌++◌, Bool, true, false, refl, sym, ◌∙◌, ap, subst, arith, ◌⊎◌, inl, inr}
+use Rattle.lie_letters.specs.RootSystems.{RootSystem, RootLaws, PositiveLaws}
+use Rattle.lie_bruhat.proofs.InTurn.{along, backwards}
 use Rattle.lie_bruhat.proofs.ProductLemmas.{along_append, along_back, back_along, conjugated}
 use Rattle.lie_bruhat.proofs.LengthLemmas.{length_of, shorter, longer, length_same, along_opposite}
 

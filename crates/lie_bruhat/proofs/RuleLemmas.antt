@@ -1,13 +1,13 @@
 -- The rules that follow from the relations.
-use Rattle.std.proofs.Common.{◌≡◌, ℕ, List, [], ◌∷◌, ◌++◌, refl, sym, ap, subst, append_assoc}
+use Rattle.std.proofs.Common.{◌≡◌, List, [], ◌∷◌, ◌++◌, append_assoc}
 use Rattle.lie_letters.specs.Setting.{Setting}
 use Rattle.lie_letters.specs.Laws.{Laws}
 use Rattle.lie_letters.specs.Letters.{Letter, Word, X, H, N, Ninv}
 use Rattle.lie_bruhat.specs.WeylWords.{inverted, reversed}
 use Rattle.lie_letters.specs.Relations.{S0-root, S0-torus, S1, S3}
 use Rattle.lie_letters.specs.SignedFrames.{Sign}
-use Rattle.lie_letters.specs.GroupRelations.{GroupRelation, plain, S5, S5-inverse, S6, S7, GroupJoined}
-use Rattle.lie_letters.specs.Chains.{StepBy, JoinedBy, forward, backward, same, next}
+use Rattle.lie_letters.specs.GroupRelations.{GroupRelation, plain, S5, S5-inverse, S6, GroupJoined}
+use Rattle.lie_letters.specs.Chains.{JoinedBy, forward, same}
 use Rattle.lie_letters.proofs.ChainLemmas.{one_step, trans, flip, behind, before, both}
 
 -- a letter before both words

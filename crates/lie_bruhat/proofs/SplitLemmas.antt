@@ -1,5 +1,5 @@
 -- Words of positive root letters, split by a test of their roots; a letter of a simple root taken to the front or to the end.
-use Rattle.std.proofs.Common.{◌≡◌, List, [], ◌∷◌, ◌++◌, Bool, true, false, not, refl, sym, ◌∙◌, ap, subst, ◌⊎◌, inl, inr}
+use Rattle.std.proofs.Common.{◌≡◌, [], ◌∷◌, ◌++◌, Bool, true, false, not, refl, sym, subst, ◌⊎◌, inl, inr}
 use Rattle.lie_letters.specs.Setting.{Setting}
 use Rattle.lie_letters.specs.Laws.{Laws}
 use Rattle.lie_letters.specs.Letters.{Word, X}

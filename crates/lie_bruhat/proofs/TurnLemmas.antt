@@ -1,9 +1,9 @@
 -- Two simple roots of a loaded datum have order two, three, four or six in turn.
-use Rattle.std.proofs.Common.{◌≡◌, ◌≢◌, ℕ, zero, suc, ◌+◌, ◌*◌, ◌≤◌, refl, sym, ap, ap₂, ◌∙◌, subst, arith, inl, inr, ◌⊎◌, ⊎_elim, List, [], ◌∷◌}
+use Rattle.std.proofs.Common.{◌≡◌, ◌≢◌, ℕ, zero, suc, ◌+◌, ◌*◌, ◌≤◌, refl, sym, ap, ap₂, ◌∙◌, subst, arith, ⊎_elim, [], ◌∷◌}
 use Rattle.std.proofs.lemmas.Int.{ints}
-use Rattle.std.specs.Prelude.{ℤ, pos, negsuc, neg_ℤ, ◌*ℤ◌, ◌≤ℤ◌, unsigned_abs}
+use Rattle.std.specs.Prelude.{ℤ, pos, neg_ℤ, ◌*ℤ◌, ◌≤ℤ◌, unsigned_abs}
 use Rattle.std.proofs.Math.IntN.{pos-*ℤ-pos}
-use Rattle.lie_datum.specs.RootDatum.{cartan, simple, opposite, root_pairing, IsSimpleIndex, is_simple, IsPositive}
+use Rattle.lie_datum.specs.RootDatum.{cartan, simple, opposite, root_pairing}
 use Rattle.lie_datum.specs.RootList.{RootDatum, IsLoaded}
 use Rattle.lie_base.proofs.RingSolver.{ring, var, neg, ◌⊗◌}
 use Rattle.lie_datum.proofs.Roots.{simple_vector, simple_covector}

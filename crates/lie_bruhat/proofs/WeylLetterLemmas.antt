@@ -1,14 +1,14 @@
 -- The rules of the `n_i` with the torus and with the root letters.
-use Rattle.std.proofs.Common.{◌≡◌, ℕ, List, [], ◌∷◌, ◌++◌, refl, sym, ◌∙◌, ap, subst, append_assoc}
+use Rattle.std.proofs.Common.{◌≡◌, List, [], ◌∷◌, ◌++◌}
 use Rattle.lie_letters.specs.Setting.{Setting}
 use Rattle.lie_letters.specs.Laws.{Laws}
-use Rattle.lie_letters.specs.Letters.{Letter, Word, X, H, N, Ninv}
-use Rattle.lie_bruhat.specs.WeylWords.{inverted, reversed, n_word, carried, carried_sign, reflect_torus}
-use Rattle.lie_letters.specs.Relations.{S0-root, S0-torus, S1, S2, S3, S4}
+use Rattle.lie_letters.specs.Letters.{Word, X, H, N, Ninv}
+use Rattle.lie_bruhat.specs.WeylWords.{n_word, carried, carried_sign, reflect_torus}
+use Rattle.lie_letters.specs.Relations.{S4}
 use Rattle.lie_letters.specs.SignedFrames.{Sign}
-use Rattle.lie_letters.specs.GroupRelations.{GroupRelation, plain, S5, S5-inverse, S6, S7, GroupJoined}
-use Rattle.lie_letters.specs.Chains.{StepBy, JoinedBy, same, next}
-use Rattle.lie_letters.proofs.ChainLemmas.{trans, flip, behind, before, both}
+use Rattle.lie_letters.specs.GroupRelations.{plain, S6, S7, GroupJoined}
+use Rattle.lie_letters.specs.Chains.{same}
+use Rattle.lie_letters.proofs.ChainLemmas.{flip}
 use Rattle.lie_bruhat.proofs.FieldLemmas
 use Rattle.lie_bruhat.proofs.RuleLemmas.{at_front, cons, walk}
 use Rattle.lie_bruhat.proofs.RuleLemmas

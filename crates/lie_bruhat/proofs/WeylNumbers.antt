@@ -1,6 +1,6 @@
 -- Words of simple indices by their numbers: products, lengths, and the images that they spell.
-use Rattle.std.proofs.Common.{◌≡◌, ℕ, zero, suc, ◌-◌, ◌+◌, ◌<◌, ◌≤◌, ℤ, pos, List, [], ◌∷◌, map, length, get_or, true, not, refl, sym, ap, ap₂, subst, ◌∙◌, arith}
-use Rattle.std.specs.List.{All, range_with_len}
+use Rattle.std.proofs.Common.{◌≡◌, ℕ, suc, ◌-◌, ◌<◌, ℤ, pos, List, [], ◌∷◌, map, length, refl, sym, ap, ap₂, subst, ◌∙◌, arith}
+use Rattle.std.specs.List.{range_with_len}
 use Rattle.std.proofs.lemmas.List.FromFn.{get_or-map-range_with_len, length-map-range_with_len}
 use Rattle.std.proofs.lemmas.List.{length-map}
 use Rattle.lie_datum.specs.declared.root_pair.Root.{Root}
@@ -13,7 +13,7 @@ use Rattle.lie_weyl.proofs.LengthLemmas.{length_same, length_le}
 use Rattle.lie_weyl.proofs.Linearity.{spelled_same}
 use Rattle.lie_const.specs.CommutatorTerms.{number_of}
 use Rattle.lie_const.proofs.FoundRoots.{number_of_is}
-use Rattle.lie_letters.specs.Names.{RootName, Index, root_at, reflect_name, signed_number}
+use Rattle.lie_letters.specs.Names.{RootName, Index, root_at}
 use Rattle.lie_letters.specs.Frames.{FrameData, setting}
 use Rattle.lie_letters.proofs.NameLemmas.{index_of, index_is, at_root, same_name, reflect_at, name_of_number, named_is}
 use Rattle.lie_bruhat.specs.WeylWords.{carried}

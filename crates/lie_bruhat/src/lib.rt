@@ -10,6 +10,8 @@
 #![tactic(auto)]
 
 mod laws;
+mod moving;
+mod product;
 
 pub use laws::{
     every_word_has_form, inverse_weyl_letters, opposite_root_letters, reversed_cancels,

@@ -39,6 +39,13 @@ impl<R: Ring> Model for Unip<R> {
 }
 
 impl<R: Ring> Unip<R> {
+    /// The list of these elements.
+    pub fn of(entries: Vec<R::Elem>) -> Unip<R>
+        ensures { result ≡ entries.items }
+    {
+        Unip { entries }
+    }
+
     /// Zeros alone.
     pub fn one(alloc: Global, ring: &R, datum: &Datum) -> Result<Unip<R>, AllocError>
         requires { IsTrue (R.ring ring.now).roomy }
