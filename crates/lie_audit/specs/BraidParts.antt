@@ -1,4 +1,5 @@
 -- How the braid values are tested: row by row.
+-- For proofs: no public clause cites it.
 use Rattle.std.specs.Prelude.{◌≡◌, ◌≢◌, ℕ, ◌<◌, pos}
 use Rattle.lie_datum.specs.RootDatum.{IsSimpleIndex}
 use Rattle.lie_datum.specs.RootList.{RootDatum}

@@ -1,5 +1,5 @@
 -- A datum has one adjoint module, and one table of the signs on a module.
--- Source: any text on Chevalley groups, as that of Carter (the structure constants are determined by their values on extraspecial pairs).
+-- Source: Carter, Simple Groups of Lie Type, 4.2 (the structure constants are determined by their values on extraspecial pairs).
 -- Own: the statements.
 use Rattle.std.specs.Prelude.{◌≡◌, ◌*◌, length}
 use Rattle.lie_datum.specs.RootList.{RootDatum, IsLoaded}

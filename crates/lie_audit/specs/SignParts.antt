@@ -1,4 +1,5 @@
 -- How the signs are computed and tested.
+-- For proofs: no public clause cites it.
 use Rattle.std.specs.Prelude.{◌≡◌, ◌⊎◌, ℕ, ◌+◌, ◌-◌, ◌*◌, ◌^◌, ◌<◌, ◌≤◌, ℤ, pos, negsuc, neg_ℤ, ◌*ℤ◌, ◌<ℤ◌, unsigned_abs, Bool, true, false, List, length, slice_index_or}
 use Rattle.std.specs.List.{All}
 use Rattle.lie_ring.specs.Rings.{sum_below}

@@ -1,4 +1,5 @@
 -- What the calls of the Bruhat product answer: forms of longer words.
+-- For proofs: no public clause cites it.
 -- Own: a form is taken as a form of any word that it is joined to, so that the calls compose.
 --
 --   y is x times the word v     IsTimes f x v y      whatever word x is the form of, y is the form of that word followed by v

@@ -1,5 +1,5 @@
 -- The adjoint module: the Lie algebra over the integers, with the brackets of a Chevalley basis.
--- Source: Carter, Simple Groups of Lie Type, chapter 4 (a Chevalley basis and its structure constants).
+-- Source: Carter, Simple Groups of Lie Type, 4.2 (a Chevalley basis and its structure constants).
 -- Own: the order of the basis, e_(r_m), .., e_(r_1), h_1, .., h_l, e_(-1), .., e_(-m), counted from 0.
 --
 --   e_r, h_i            RootVector r, CorootVector i      r is a signed number; i counts from 1

@@ -4,7 +4,7 @@
 --   C_ijrs           coefficient d n r s i j           a fraction, whole or not
 --   the terms        AreTerms d n r s ts               the roots i r + j s with their C_ijrs
 --
--- Source: any text on Chevalley groups, as that of Carter, on the commutator formula.
+-- Source: Carter, Simple Groups of Lie Type, 5.2 (the commutator formula).
 -- Own: the order of the terms, by rising i + j, then rising i; r and s in these formulas are coefficient vectors.
 use Rattle.std.specs.Prelude.{◌≡◌, ◌≢◌, ℕ, zero, suc, ◌+◌, ◌*◌, ◌<◌, ℤ, pos, negsuc, neg_ℤ, ◌*ℤ◌, List, [], ◌∷◌, Some, ◌||◌, ◌⊎◌, is_some, slice_get, length, if◌then◌else◌}
 use Rattle.std.specs.List.{position, filter, AllZip}

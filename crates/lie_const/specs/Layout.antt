@@ -1,4 +1,5 @@
 -- How lists of terms are laid out: one after another, with the places where each begins.
+-- For proofs: no public clause cites it.
 use Rattle.std.specs.Prelude.{◌≡◌, ℕ, ◌-◌, ◌≤◌, List, [], ◌∷◌, length, take, drop}
 use Rattle.lie_const.specs.declared.term.Term.{Term}
 

@@ -1,5 +1,5 @@
 -- Modules of a root datum: weights, divided powers of the root vectors, and the matrices of root elements and of Weyl representatives.
--- Source: Steinberg, Lectures on Chevalley groups (lattices with divided powers); Carter, Simple Groups of Lie Type (x_r(t), n_i).
+-- Source: Steinberg, Lectures on Chevalley Groups, 2 (lattices with divided powers) and 3 (x_r(t)); Carter, Simple Groups of Lie Type, chapter 6 (n_i).
 -- Own: a module is the list of its weights with the matrices of each root, in the full order of the roots.
 --
 --   v_a              the basis vectors                 places count from 0, and matrices act on columns

@@ -1,5 +1,5 @@
 -- The signs of the Weyl representatives on root elements.
--- Source: Carter, Simple Groups of Lie Type, chapter 6 (n_r x_s(t) n_r^-1); Steinberg, Lectures on Chevalley groups.
+-- Source: Carter, Simple Groups of Lie Type, chapter 6 and 7.2 (n_r x_s(t) n_r^-1).
 -- Own: the sign is read off the adjoint module, and what is asked of it.
 --
 --   s_i s           image d i s           i counts from 1, s is a signed number

@@ -6,7 +6,7 @@
 --   |s - r|^2        gap d s r                  or 1 where s - r is no root
 --   N_rs A = E       IsForced d n at r s A E    the equation of the pair (r, s), which is determined at the place `at`
 --
--- Source: any text on Chevalley groups, as that of Carter; special and extraspecial pairs are his.
+-- Source: Carter, Simple Groups of Lie Type, 4.1 and 4.2; special and extraspecial pairs are his.
 -- Own: the signs on extraspecial pairs, which are all positive; the order in which the pairs are determined.
 use Rattle.std.specs.Prelude.{◌≡◌, ◌≢◌, ℕ, ◌+◌, ◌<◌, ℤ, pos, neg_ℤ, ◌+ℤ◌, ◌*ℤ◌, ◌≤ℤ◌, ◌<ℤ◌, ◌⊎◌, Option}
 use Rattle.std.specs.List.{find}

@@ -1,4 +1,5 @@
 -- Tables of values at pairs, and names kept by a vector.
+-- For proofs: no public clause cites it.
 use Rattle.std.specs.Prelude.{◌≡◌, ℕ, ◌<◌, ℤ, List, [], ◌∷◌, ◌++◌, map, length, slice_index_or, Option, MatchOption}
 use Rattle.std.specs.List.{Contains}
 use Rattle.lie_datum.specs.Vectors.{Vector}

@@ -1,4 +1,5 @@
 -- The list of the positive roots is picked from the closure and sorted.
+-- For proofs: no public clause cites it.
 use Rattle.std.specs.Prelude.{◌≡◌, ◌≢◌, ◌≤◌, List, length, Option, MatchOption}
 use Rattle.std.specs.List.{Contains}
 use Rattle.std.specs.Ordering.{int_cmp}

@@ -1,4 +1,5 @@
 -- A square matrix kept as one list, row after row.
+-- For proofs: no public clause cites it.
 -- Own: the form in which a dense matrix is kept.
 use Rattle.std.specs.Prelude.{◌≡◌, ℕ, ◌+◌, ◌*◌, ◌<◌, ℤ, pos, List, length, slice_index_or}
 use Rattle.lie_ring.specs.Rings.{sum_below}

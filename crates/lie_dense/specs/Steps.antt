@@ -1,4 +1,5 @@
 -- The table of the sums x + a y of the elements of a small field.
+-- For proofs: no public clause cites it.
 -- Own: the order of the entries: a runs last, then x, then y.
 use Rattle.std.specs.Prelude.{◌≡◌, ℕ, ◌*◌, ◌/◌, ◌%◌, ◌<◌, ◌≤◌, ◌⊎◌, List, length, slice_index_or}
 use Rattle.lie_field.specs.FiniteField.{FiniteField}

@@ -1,5 +1,5 @@
 -- When a module is audited for a datum, its constants and its signs, and what fails first where it is not.
--- Source: Steinberg's presentation; a module that meets the relations over the Laurent polynomials meets them at all values but 0.
+-- Source: Steinberg, Lectures on Chevalley Groups, 6 (generators and relations); a module that meets the relations over the Laurent polynomials meets them at all values but 0.
 -- Own: the order in which a fault is named, and the bound 2^126 on the sizes.
 --
 --   the grading         IsGraded d v             E_r^(k) raises weights by k r

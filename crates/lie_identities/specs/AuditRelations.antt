@@ -1,5 +1,5 @@
 -- The relations that a module is audited for: equations between products of matrices, over a ring with an invertible t and with u.
--- Source: Steinberg's presentation, of which these are the relations S1, S2, S6 and S7.
+-- Source: Steinberg, Lectures on Chevalley Groups, 6 (generators and relations), of which these are the relations S1, S2, S6 and S7.
 -- Own: the list of the relations and its order; the sizes, which bound what is met where the two sides are multiplied out.
 --
 --   t^e, u                       y.t_to e, y.u                   y : Variables A; over the Laurent polynomials, their own t and u

@@ -1,5 +1,5 @@
 -- Braid values: the product of the signs along the braid of two simple reflections.
--- Source: Carter, Simple Groups of Lie Type (the Weyl group by its braid relations); Matsumoto's theorem rests on it.
+-- Source: Geck, Pfeiffer, Characters of Finite Coxeter Groups and Iwahori-Hecke Algebras, 1.2 (braid relations, Matsumoto's theorem).
 -- Own: which root the walk begins at, and that the value is to be 1.
 --
 --   m                       the order of s_i s_j, IsOrder

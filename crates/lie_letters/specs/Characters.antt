@@ -1,5 +1,5 @@
 -- Roots at torus vectors and coroots at units: products of powers, and vectors of powers, of elements that are not 0.
--- Source: Carter, Simple Groups of Lie Type, chapter 7 (the diagonal subgroup).
+-- Source: Carter, Simple Groups of Lie Type, 7.1 (the diagonal subgroup).
 --
 --   v(t), the product of the t_j^(v_j)     monomial f t v
 --   (a^(y_1), .., a^(y_n))                 powers f a n y

@@ -1,5 +1,5 @@
 -- All relations between words, those of the letters `n_i` included, and words that are joined by them.
--- Source: Steinberg's presentation; Carter, Simple Groups of Lie Type, chapters 6 and 7 (x_r(t), n_r and h_r(t)).
+-- Source: Steinberg, Lectures on Chevalley Groups, 6 (generators and relations); Carter, Simple Groups of Lie Type, chapters 6 and 7 (x_r(t), n_r and h_r(t)).
 -- Own: the list of relations and their names, S0 to S7; S5 to S7 alone speak of signs and Weyl letters.
 --
 --   a_i, -a_i                S.simple i, S.opposite (S.simple i)     the roots of x_i and x_-i

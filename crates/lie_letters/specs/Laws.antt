@@ -1,5 +1,5 @@
 -- The laws of a field, of the torus, and of roots at torus vectors, as far as words need them.
--- Source: any text on algebra (fields), and Carter, Simple Groups of Lie Type, chapter 7 (characters of the diagonal subgroup).
+-- Source: Lang, Algebra, II.1 (fields); Carter, Simple Groups of Lie Type, 7.1 (characters of the diagonal subgroup).
 use Rattle.std.specs.Prelude.{◌≡◌}
 use Rattle.lie_letters.specs.Setting.{Setting}
 

@@ -1,5 +1,5 @@
 -- Letters and words of a setting.
--- Source: Steinberg's presentation, whose generators the letters name.
+-- Source: Steinberg, Lectures on Chevalley Groups, 6 (generators and relations), whose generators the letters name.
 --
 --   x_r(a)           X r a
 --   h(t)             H t

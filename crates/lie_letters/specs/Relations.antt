@@ -1,5 +1,5 @@
 -- The relations S0 to S4 between words, each as a pair of words, and words that are joined by them.
--- Source: Steinberg's presentation. Own: the list of relations and their names; `specs/GroupRelations.antt` has those of the letters `n_i`.
+-- Source: Steinberg, Lectures on Chevalley Groups, 6 (generators and relations). Own: the list of relations and their names, S0 to S4.
 use Rattle.std.specs.Prelude.{◌≡◌, ℕ, zero, suc, List, [], ◌∷◌, map}
 use Rattle.lie_letters.specs.Chains.{JoinedBy}
 use Rattle.lie_letters.specs.Setting.{Setting, Term}

@@ -1,5 +1,5 @@
 -- Words of positive root letters over a ring.
--- Source: Carter, Simple Groups of Lie Type, chapter 5 (the letters of a commutator).
+-- Source: Carter, Simple Groups of Lie Type, 5.2 (the letters of a commutator).
 -- Own: a letter has the number of its root, so that a word over one ring becomes one over another by its elements alone.
 --
 --   r, s                                 numbers of positive roots, from 1 to m, in the order of the roots

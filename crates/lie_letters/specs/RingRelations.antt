@@ -1,5 +1,5 @@
 -- The relations between positive root letters over a ring, and words that are joined over the ring.
--- Source: Steinberg's presentation, on positive roots alone, with elements of any commutative ring.
+-- Source: Steinberg, Lectures on Chevalley Groups, 6 (generators and relations), on positive roots alone, with elements of any commutative ring.
 -- Own: each element in a relation is one of the ring, so that a chain never leaves the ring.
 use Rattle.std.specs.Prelude.{ℕ, ◌≤◌, ◌<◌, List, [], ◌∷◌}
 use Rattle.lie_ring.specs.Rings.{RingOn, IsElem}

@@ -1,5 +1,5 @@
 -- The roots by their coefficients over the simple roots, pairings with coroots, and simple reflections; their laws, and those of signs.
--- Source: any text on root systems, as that of Humphreys on Lie algebras.
+-- Source: Humphreys, Introduction to Lie Algebras and Representation Theory, 9.2 to 10.2.
 --
 --   r = x a + y b            IsSum D r x a y b
 --   n z                      times n z                a natural number of times an integer

@@ -1,5 +1,5 @@
 -- Frames with the signs of the Weyl representatives, of which words with letters `n_i` speak.
--- Source: Steinberg, Lectures on Chevalley groups; Carter, Simple Groups of Lie Type, chapter 6 (n_r x_s(t) n_r^-1).
+-- Source: Steinberg, Lectures on Chevalley Groups, 6 (generators and relations); Carter, Simple Groups of Lie Type, chapter 6 and 7.2 (n_r x_s(t) n_r^-1).
 -- Own: a frame keeps that its signs are those of the adjoint module, as they should be, and that each braid value is 1.
 --
 --   the frame without its signs          unsigned f

@@ -1,4 +1,5 @@
 -- What is read from a matrix that is kept by its columns.
+-- For proofs: no public clause cites it.
 use Rattle.std.proofs.Common.{◌≡◌, ℕ, zero, suc, ◌<◌, List, [], ◌∷◌, length, get_or, refl, sym, ap, ◌∙◌, arith}
 use Rattle.std.specs.Prelude.{Some, None, Option, IfSome, ◌↔◌, ◌≢◌}
 use Rattle.std.specs.Borrow.{Bor}

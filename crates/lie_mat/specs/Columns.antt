@@ -1,4 +1,5 @@
 -- A matrix kept by its columns, of which each has the entries that are not zero.
+-- For proofs: no public clause cites it.
 -- Own: the form in which a matrix is kept.
 use Rattle.std.specs.Prelude.{◌≡◌, ◌≢◌, ℕ, ◌<◌, ◌≤◌, List, [], map, length, slice_index_or, Some, Option}
 use Rattle.std.specs.Option.{unwrap_or}

@@ -1,4 +1,5 @@
 -- How a table is filled.
+-- For proofs: no public clause cites it.
 use Rattle.std.proofs.Common.{◌≡◌, ◌≢◌, ℕ, ◌+◌, ◌<◌, refl, sym, ap, ap₂, ◌∙◌, inl, inr, subst, arith, cond, true, false, Bool, eqb, ltb}
 use Rattle.std.proofs.lemmas.Bool.{cases_eq, eq-eqb, ne_eqb}
 use Rattle.std.proofs.lemmas.Bool.Decides.{nat_tests}

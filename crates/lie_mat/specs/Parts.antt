@@ -1,4 +1,5 @@
 -- A table that is filled row by row, and whose other places are zero.
+-- For proofs: no public clause cites it.
 -- Own: the order of the places.
 use Rattle.std.specs.Prelude.{ℕ, eqb, ltb, cond, Bool}
 use Rattle.lie_ring.specs.Matrices.{Matrix, table}

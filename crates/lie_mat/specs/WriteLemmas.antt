@@ -1,4 +1,5 @@
 -- What a write to one column leaves.
+-- For proofs: no public clause cites it.
 use Rattle.std.proofs.Common.{◌≡◌, ◌≢◌, ℕ, zero, suc, ◌<◌, ◌⊎◌, List, [], ◌∷◌, length, set, refl, sym, ap, ◌∙◌, inl, inr, subst, arith, Some, None, cond, true, false, Bool, eqb, length-set}
 use Rattle.std.specs.Option.{unwrap_or}
 use Rattle.std.specs.Map.{lookup}

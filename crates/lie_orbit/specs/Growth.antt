@@ -1,4 +1,5 @@
 -- The growth of the orbit of a minuscule weight.
+-- For proofs: no public clause cites it.
 use Rattle.std.specs.Prelude.{◌≡◌, ℕ, ◌≤◌, ◌<◌, ◌*◌, ◌^◌, List, [], ◌++◌, length, slice_index_or}
 use Rattle.std.specs.List.{Contains}
 use Rattle.lie_datum.specs.Vectors.{Vector}

@@ -1,5 +1,5 @@
 -- What follows from the definitions of lowering, of orbits and of roots alone.
--- Source: any text on root systems, as that of Humphreys on Lie algebras, for sums of roots.
+-- Source: Humphreys, Introduction to Lie Algebras and Representation Theory, 9.4 (sums of roots).
 use Rattle.std.specs.Prelude.{◌≡◌, ℕ, ◌<◌, pos, List, [], ◌∷◌, length}
 use Rattle.std.specs.List.{Contains}
 use Rattle.lie_datum.specs.Vectors.{Vector, plus, entry}

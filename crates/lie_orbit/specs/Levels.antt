@@ -1,4 +1,5 @@
 -- The levels of weights, by which the members of an orbit are sorted.
+-- For proofs: no public clause cites it.
 use Rattle.std.specs.Prelude.{◌≡◌, ℤ}
 use Rattle.lie_datum.specs.Vectors.{Vector, pairing}
 use Rattle.lie_datum.specs.RootList.{RootDatum}

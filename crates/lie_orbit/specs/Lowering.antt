@@ -1,6 +1,6 @@
 -- Lowering of a weight: while a root pairs with a weight to 2 or more, the first such root is taken away,
 -- half as often as it pairs.
--- Source: any text on weights, for that each class of weights modulo the roots has a member that pairs with all roots to -1, 0 or 1.
+-- Source: Humphreys, Introduction to Lie Algebras and Representation Theory, 13 (exercises: each class of weights modulo the roots has a member that pairs with all coroots to -1, 0 or 1).
 -- Own: which root is taken away first, and how often.
 --
 --   floor(m / 2)     IsHalf m c                  c is that number

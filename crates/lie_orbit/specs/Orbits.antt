@@ -1,5 +1,5 @@
 -- Orbits of weights under the simple reflections.
--- Source: any text on minuscule weights, as that of Humphreys on Lie algebras.
+-- Source: Bourbaki, Groupes et algèbres de Lie, VIII, 7, 3 (minuscule weights).
 -- Own: the order of the members, and that no more than 1,025 are counted.
 --
 --   s_i x              reflected_weight d i x        x - <x, a_i^> a_i; i counts from 1

@@ -1,5 +1,5 @@
 -- How a weight pairs with the coroots, and minuscule weights.
--- Source: any text on minuscule weights, as that of Humphreys on Lie algebras; 0 is minuscule here.
+-- Source: Bourbaki, Groupes et algèbres de Lie, VIII, 7, 3 (minuscule weights); 0 is minuscule here.
 -- Own: where the first root with a large pairing stands.
 --
 --   <x, r^>                    coroot_pairing d x r          r is a signed number

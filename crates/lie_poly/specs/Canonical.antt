@@ -1,4 +1,5 @@
 -- The canonical list of a list of terms, and that canonical lists with the same coefficients are equal.
+-- For proofs: no public clause cites it.
 use Rattle.std.proofs.Common.{◌≡◌, ◌≢◌, [], ◌∷◌, refl, sym, ap, ap₂, ◌∙◌, cond, subst, Less, Equal, Greater, Bool, true, false, not, ◌&&◌, T}
 use Rattle.std.specs.Prelude.{ℤ, pos, ◌+ℤ◌}
 use Rattle.std.specs.declared.cmp.Ordering.{Ordering}

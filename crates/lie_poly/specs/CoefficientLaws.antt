@@ -1,4 +1,5 @@
 -- The coefficients of monomials, sums, negatives and products.
+-- For proofs: no public clause cites it.
 use Rattle.std.proofs.Common.{◌≡◌, refl, sym, ap, ap₂, ◌∙◌, cond, true, false, arith}
 use Rattle.std.specs.Prelude.{ℤ, pos, ◌+ℤ◌, ◌*ℤ◌, neg_ℤ, ◌⊎◌}
 use Rattle.std.specs.Ordering.{is_eq}

@@ -1,5 +1,5 @@
 -- The value of a Laurent polynomial at elements t and u of a finite field.
--- Source: any text on algebra (evaluation of polynomials).
+-- Source: Lang, Algebra, II.3 (evaluation of polynomials).
 --
 --   t^i u^j                         monomial_at f t u     a negative exponent is a power of the inverse
 --   the sum of the c t^i u^j        evaluation f t u p    over the terms of p, in the field f

@@ -1,4 +1,5 @@
 -- The Laurent polynomials are a ring.
+-- For proofs: no public clause cites it.
 use Rattle.std.proofs.Common.{◌≡◌, ℕ, ◌+◌, ◌*◌, ◌≤◌, max, [], ◌∷◌, ◌++◌, map, refl, sym, ap, ap₂, ◌∙◌, cond, true, false, T, arith, Less, Equal, Greater}
 use Rattle.std.specs.Prelude.{ℤ, pos, ◌+ℤ◌, ◌*ℤ◌, neg_ℤ, nat_abs}
 use Rattle.std.specs.Ordering.{is_eq, int_eq, match_ordering}

@@ -1,5 +1,5 @@
 -- The laws of Laurent polynomials, as statements. `src/laws.rt` publishes each.
--- Source: any text on algebra.
+-- Source: Lang, Algebra, II.3 (group rings).
 use Rattle.std.specs.Prelude.{◌≡◌, ◌≢◌, ℕ, ℤ, pos, ◌+ℤ◌, neg_ℤ, ◌⊎◌}
 use Rattle.lie_ring.specs.Rings.{IsHom}
 use Rattle.lie_ring.specs.Integers.{integers}

@@ -1,5 +1,5 @@
 -- Laurent polynomials in t and u with integer coefficients, and their ring.
--- Source: any text on algebra.
+-- Source: Lang, Algebra, II.3 (group rings).
 -- Own: a polynomial is its canonical list of terms, so it is determined by its coefficients (`src/laws.rt`).
 --
 --   c at t^i u^j       coefficient p i j

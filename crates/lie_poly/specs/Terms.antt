@@ -1,5 +1,5 @@
 -- Lists of terms c t^i u^j, and the canonical list that a list of terms adds up to.
--- Source: any text on algebra (group rings); a Laurent polynomial in t and u is an element of the group ring Z[Z x Z].
+-- Source: Lang, Algebra, II.3 (group rings); a Laurent polynomial in t and u is an element of the group ring Z[Z x Z].
 -- Own: the canonical list, which has each pair of exponents at most once, by rising exponent of t, then of u, and no coefficient 0.
 --
 --   (i, j) before (k, l)     exponents_cmp     by the exponent of t, then of u

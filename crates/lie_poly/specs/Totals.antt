@@ -1,4 +1,5 @@
 -- Sums over terms, in a ring.
+-- For proofs: no public clause cites it.
 use Rattle.std.proofs.Common.{◌≡◌, [], ◌∷◌, ◌++◌, refl, sym, ap, ap₂, ◌∙◌, cond, Less, Equal, Greater}
 use Rattle.std.specs.Prelude.{pos, ◌+ℤ◌, true, false}
 use Rattle.std.specs.Ordering.{int_eq, match_ordering}

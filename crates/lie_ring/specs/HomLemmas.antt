@@ -1,4 +1,5 @@
 -- What a homomorphism keeps besides, and the homomorphism from the integers.
+-- For proofs: no public clause cites it.
 use Rattle.std.proofs.Common.{◌≡◌, ℕ, zero, suc, ◌<◌, sym, ap, ap₂, ◌∙◌, arith}
 use Rattle.std.proofs.lemmas.Int.{ints}
 use Rattle.std.specs.Prelude.{ℤ, pos, negsuc, ◌+ℤ◌, IsTrue}

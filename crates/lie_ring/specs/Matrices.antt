@@ -1,5 +1,5 @@
 -- Matrices over a ring, and the operations on them.
--- Source: any text on algebra (matrices, their sums and products, the matrix of a tensor product).
+-- Source: Lang, Algebra, XIII.1 (matrices) and XVI.1 (tensor products).
 --
 --   rows and columns             count from 0
 --   M_ij                         entry z M i j           z outside of the matrix

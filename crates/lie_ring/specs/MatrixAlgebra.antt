@@ -1,5 +1,5 @@
 -- The laws of matrices over a ring, as statements. `src/laws.rt` publishes each.
--- Source: any text on algebra (matrices over a commutative ring, the matrix of a tensor product).
+-- Source: Lang, Algebra, XIII.1 (matrices over a commutative ring) and XVI.1 (tensor products).
 -- Own: each law speaks of matrices of elements whose shapes fit; in comments 0 and 1 are the matrix of zeros and the
 -- identity, M^t is M transposed, M + N a sum, and (+), (x) are direct sum and Kronecker product.
 use Rattle.std.specs.Prelude.{◌≡◌, ℕ, ◌+◌, ◌*◌}

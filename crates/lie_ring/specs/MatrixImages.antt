@@ -1,4 +1,5 @@
 -- The image of a matrix under a homomorphism, through each operation.
+-- For proofs: no public clause cites it.
 use Rattle.std.proofs.Common.{◌≡◌, ℕ, ◌+◌, ◌-◌, ◌*◌, ◌/◌, ◌%◌, ◌<◌, [], cond, Bool, true, false, ltb, eqb, refl, sym, ap, ap₂, ◌∙◌, subst, arith, get_or}
 use Rattle.std.proofs.lemmas.Nat.{div_below, mod_below}
 use Rattle.std.proofs.Math.ListN.{get_or-map}

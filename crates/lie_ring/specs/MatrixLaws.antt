@@ -1,5 +1,6 @@
 -- The laws of matrices over a ring: products, the identity, direct sums, Kronecker products, sums.
--- Source: any text on algebra (matrices over a commutative ring).
+-- For proofs: no public clause cites it.
+-- Source: Lang, Algebra, XIII.1 (matrices over a commutative ring).
 use Rattle.std.proofs.Common.{◌≡◌, ◌≢◌, ℕ, ◌+◌, ◌-◌, ◌*◌, ◌/◌, ◌%◌, ◌<◌, cond, eqb, refl, sym, ap, ap₂, ◌∙◌, inl, inr, arith}
 use Rattle.std.proofs.lemmas.Nat.{div_below, mod_below, div-add-mod'}
 use Rattle.std.proofs.lemmas.Bool.{cases_eq, eq-eqb, ne_eqb, lt-ltb, le-ltb}

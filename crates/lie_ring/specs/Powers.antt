@@ -1,5 +1,5 @@
 -- Powers in a ring.
--- Source: any text on algebra.
+-- Source: Lang, Algebra, II.1.
 --
 --   a^n    power R a n
 use Rattle.std.specs.Prelude.{ℕ, zero, suc}

@@ -1,5 +1,5 @@
 -- The list that a word of positive root letters over a ring is collected to.
--- Source: the collection process of Hall, with the commutator relations of Chevalley for the letters.
+-- Source: Hall, The Theory of Groups, 11.1 (the collecting process); Carter, Simple Groups of Lie Type, 5.2 (the commutator formula).
 -- Own: which pair of neighbours is replaced first, which fixes the list over every ring.
 --
 --   m                    how many positive roots there are

@@ -1,4 +1,5 @@
 -- What a collector keeps has one proof at most, so that it can stand on its type.
+-- For proofs: no public clause cites it.
 use Rattle.std.specs.Prelude.{ℕ, Bool, List, [], ◌∷◌}
 use Rattle.std.specs.Coded.{Coded, Coded-set, coded_ℕ, coded_bool, ×_prop, Unit-prop, le_prop}
 use Rattle.lie_const.specs.ConstantTables.{ConstantTable}

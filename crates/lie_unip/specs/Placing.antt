@@ -1,4 +1,5 @@
 -- Placing a letter in a sorted word: what is moved to the letters that are still to be placed, and why it ends.
+-- For proofs: no public clause cites it.
 -- Own: the sorted word is kept as the elements at the roots of a list, and the letters still to be placed as a list with the next one last.
 --
 --   ks          the roots in the order of the sorted word; those with kept r come first

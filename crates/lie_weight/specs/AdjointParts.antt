@@ -1,4 +1,5 @@
 -- How the matrices of the adjoint module are filled: column by column, each from the first row down.
+-- For proofs: no public clause cites it.
 use Rattle.std.specs.Prelude.{◌≡◌, ◌≢◌, ◌⊎◌, ℕ, suc, ◌+◌, ◌-◌, ◌<◌, ◌≤◌, ℤ, pos, ◌*ℤ◌, List, [], length, slice_index_or}
 use Rattle.std.specs.List.{All}
 use Rattle.lie_ring.specs.Integers.{integers}

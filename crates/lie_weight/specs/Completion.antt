@@ -1,4 +1,5 @@
 -- How the module of an orbit is completed, root by root: by rising absolute height, then in the full order.
+-- For proofs: no public clause cites it.
 use Rattle.std.specs.Prelude.{◌≡◌, ◌≢◌, ◌⊎◌, ℕ, ◌-◌, ◌<◌, ◌≤◌, ℤ, pos, neg_ℤ, List, length, slice_index_or, slice_set, ⊤}
 use Rattle.lie_ring.specs.Matrices.{Matrix, zero_matrix}
 use Rattle.lie_datum.specs.Numbers.{place}

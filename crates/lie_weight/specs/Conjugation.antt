@@ -1,5 +1,5 @@
 -- The root vectors of roots that are not simple, as conjugates of those of lower roots.
--- Source: Carter, Simple Groups of Lie Type, chapter 6 (n_r x_s(t) n_r^-1); Steinberg, Lectures on Chevalley groups.
+-- Source: Carter, Simple Groups of Lie Type, chapter 6 and 7.2 (n_r x_s(t) n_r^-1).
 -- Own: which simple reflection lowers a root, and the bound on the sizes that are met.
 --
 --   |r|                absolute_height d r         the height of r or of -r, whichever is positive

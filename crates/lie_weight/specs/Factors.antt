@@ -1,4 +1,5 @@
 -- The matrices that conjugate the root vectors of an orbit's module, and the sizes of their entries.
+-- For proofs: no public clause cites it.
 --
 --   1 + c M                       one_plus c M
 --   A (B A)                       sandwich A B

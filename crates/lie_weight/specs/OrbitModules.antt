@@ -1,5 +1,5 @@
 -- The module of the orbit of a minuscule weight: simple root vectors step along the orbit, and the others are conjugates of them.
--- Source: any text on minuscule weights and representations, as that of Humphreys on Lie algebras.
+-- Source: Bourbaki, Groupes et algèbres de Lie, VIII, 7, 3 (minuscule weights).
 -- Own: the order of the basis, and the signs, which are those of `Conjugation.antt`.
 --
 --   v_x                the basis vectors             x in the orbit of w, in order

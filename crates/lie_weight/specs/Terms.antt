@@ -1,4 +1,5 @@
 -- The terms (k, 1) in a list of terms.
+-- For proofs: no public clause cites it.
 use Rattle.std.specs.Prelude.{◌≡◌, ℕ, List}
 use Rattle.std.specs.List.{Contains}
 use Rattle.lie_const.specs.declared.term.Term.{Term}

@@ -1,5 +1,5 @@
 -- Descents: the simple reflections that make an element shorter from the right.
--- Source: any text on reflection groups, as that of Humphreys.
+-- Source: Humphreys, Reflection Groups and Coxeter Groups, 1.6 (the length function).
 -- Own: the heights of the images of the simple roots, which tell the descents.
 use Rattle.std.specs.Prelude.{◌≡◌, ◌≢◌, ◌≤◌, ◌<◌, ◌-◌, ◌+ℤ◌, ◌-ℤ◌, ◌*ℤ◌, ◌<ℤ◌, ◌≤ℤ◌, ℕ, pos, List, length}
 use Rattle.std.specs.Ordering.{nat_cmp}

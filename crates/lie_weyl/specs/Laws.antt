@@ -1,5 +1,5 @@
 -- Laws of lengths and words in the Weyl group of a loaded datum.
--- Source: any text on reflection groups, as that of Humphreys.
+-- Source: Humphreys, Reflection Groups and Coxeter Groups, 1.6 and 1.7 (the length function, the exchange condition).
 use Rattle.std.specs.Prelude.{◌≡◌, ◌≤◌, ◌<◌, ℕ, suc, List, [], ◌∷◌, ◌++◌, length, reverse}
 use Rattle.lie_datum.specs.RootDatum.{simple, IsSimpleIndex, IsPositive, IsNegative}
 use Rattle.lie_datum.specs.RootList.{RootDatum, IsLoaded}

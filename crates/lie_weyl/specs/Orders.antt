@@ -1,5 +1,5 @@
 -- Orders of the products of two simple reflections, by the Cartan integers.
--- Source: any text on reflection groups, as that of Humphreys.
+-- Source: Humphreys, Introduction to Lie Algebras and Representation Theory, 9.4 (pairs of roots, by the product of their Cartan integers).
 use Rattle.std.specs.Prelude.{◌≢◌, ◌≤◌, ◌<◌, ℕ, zero, suc, ℤ, pos, negsuc, ◌*ℤ◌, List, [], ◌∷◌, ◌++◌}
 use Rattle.lie_datum.specs.RootDatum.{cartan, IsSimpleIndex}
 use Rattle.lie_datum.specs.RootList.{RootDatum, IsLoaded}

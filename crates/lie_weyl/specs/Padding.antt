@@ -1,4 +1,5 @@
 -- At most eight numbers in eight places: the places past the last hold 1.
+-- For proofs: no public clause cites it.
 -- Own: the filling, which makes equal lists equal in memory.
 use Rattle.std.specs.Prelude.{◌≡◌, ◌≤◌, ◌-◌, ℕ, zero, suc, ℤ, pos, List, [], ◌∷◌, ◌++◌, length, take, slice_index_or}
 use Rattle.std.proofs.Common.{refl, sym, ap, ◌∙◌, arith, replicate}

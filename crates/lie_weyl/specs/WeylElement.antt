@@ -1,5 +1,5 @@
 -- Weyl elements: products of simple reflections, kept by the images of the simple roots.
--- Source: any text on reflection groups, as that of Humphreys (length, exchange condition).
+-- Source: Humphreys, Reflection Groups and Coxeter Groups, 1.6 and 1.7 (the length function, the exchange condition).
 -- Own: the images of the simple roots as the element, and the lexicographically least of the shortest words as its word.
 --
 --   s_i              reflected b i        on a root and its coroot; simple indices count from 1
