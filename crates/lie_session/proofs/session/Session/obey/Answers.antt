@@ -1,5 +1,6 @@
 use Rattle.std.proofs.Common.{rules, ◌≡◌}
 use Rattle.lie_session.specs.DatumLines.{with_root, with_coroot}
+use Rattle.lie_reply.specs.Commands.{ConstantTextOf}
 use Rattle.lie_session.specs.Replies.{InDatum}
 use Rattle.lie_session.proofs.StateLemmas.{does_datum, does_root, does_coroot, does_constant, form_over}
 use Rattle.lie_session.proofs.session.Session.obey.Goals as goal
@@ -23,6 +24,6 @@ returns-in_ok-lines-in-Coroot c =
 
 pub returns-in_ok-text-in-Constant : goal.returns-in_ok-text-in-Constant
 returns-in_ok-text-in-Constant c =
+    let is : ConstantTextOf c.both-in-Constant.result.1.now c.in-Constant.r c.in-Constant.s c.in_ok-text-in-Constant.text = search rules in
     does_constant c.args.self.now c.args.number c.args.line c.in-Constant.r c.in-Constant.s c.both-in-Constant.result.0.now c.both-in-Constant.result.1.now
-    c.in_ok-text-in-Constant.text c.answer-in-Constant.result c.in-Constant.is c.both-in-Constant.ensures.field c.both-in-Constant.ensures.datum
-    c.in_ok-text-in-Constant.ensures c.answer-in-Constant.ensures
+    c.in_ok-text-in-Constant.text c.answer-in-Constant.result c.in-Constant.is c.both-in-Constant.ensures.field c.both-in-Constant.ensures.datum is c.answer-in-Constant.ensures
