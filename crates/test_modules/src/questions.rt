@@ -5,7 +5,7 @@ use crate::spaces::about_spaces;
 use crate::words::about_words;
 use std::alloc::{AllocError, Global};
 use test_rows::{
-    Answer, Stop, field_of_row, load_datum, load_field, read_lists, roots_of_row, row,
+    Answer, Roots, Stop, field_of_row, load_datum, load_field, read_lists, roots_of_row, row,
 };
 
 /// The lines with their answers. Rows are about the last datum, field and list of signs before them, which are
@@ -54,22 +54,63 @@ fn answered(
     };
     let mut answer = Answer::new(alloc)?;
     match question {
-        "datum" => {
-            load_datum(alloc, text, &mut answer)?;
-        }
-        "field" => {
-            load_field(alloc, &read_lists(alloc, text, "|")?, &mut answer)?;
-        }
-        "signs" => answer.number(signs_of(alloc, text)?.len() as i128)?,
-        _ => {
-            let lists = read_lists(alloc, text, "|")?;
-            if !about_matrices(alloc, question, &lists, &mut answer)? {
-                let signs = signs_of(alloc, signs)?;
-                about_loaded(alloc, datum, field, &signs, question, &lists, &mut answer)?;
-            }
-        }
+        "datum" => write_datum(alloc, text, &mut answer)?,
+        "field" => write_field(alloc, text, &mut answer)?,
+        "signs" => write_signs(alloc, text, &mut answer)?,
+        _ => about_row(alloc, datum, field, signs, question, text, &mut answer)?,
     }
     Ok(answer.text())
+}
+
+/// Writes what a row `datum` loads.
+fn write_datum(alloc: Global, text: &str, answer: &mut Answer) -> Result<(), Stop> {
+    load_datum(alloc, text, answer)?;
+    Ok(())
+}
+
+/// Writes what a row `field` loads.
+fn write_field(alloc: Global, text: &str, answer: &mut Answer) -> Result<(), Stop> {
+    let lists = read_lists(alloc, text, "|")?;
+    load_field(alloc, &lists, answer)?;
+    Ok(())
+}
+
+/// Writes how many signs a row `signs` has.
+fn write_signs(alloc: Global, text: &str, answer: &mut Answer) -> Result<(), Stop> {
+    let signs = signs_of(alloc, text)?;
+    answer.number(signs.len() as i128)?;
+    Ok(())
+}
+
+/// Answers a question about the lists of a text.
+fn about_row(
+    alloc: Global,
+    datum: &str,
+    field: &str,
+    signs: &str,
+    question: &str,
+    text: &str,
+    answer: &mut Answer,
+) -> Result<(), Stop> {
+    let lists = read_lists(alloc, text, "|")?;
+    about_lists(alloc, datum, field, signs, question, &lists, answer)
+}
+
+/// Answers a question about matrices, or about what the rows before have loaded.
+fn about_lists(
+    alloc: Global,
+    datum: &str,
+    field: &str,
+    signs: &str,
+    question: &str,
+    lists: &[Vec<i128>],
+    answer: &mut Answer,
+) -> Result<(), Stop> {
+    if about_matrices(alloc, question, lists, answer)? {
+        return Ok(());
+    }
+    let signs = signs_of(alloc, signs)?;
+    about_loaded(alloc, datum, field, &signs, question, lists, answer)
 }
 
 /// Answers a question about the datum and the signs, or about the datum and the field.
@@ -86,8 +127,20 @@ fn about_loaded(
     if about_spaces(alloc, &roots, signs, question, lists, answer)? {
         return Ok(());
     }
+    about_field(alloc, field, &roots, question, lists, answer)
+}
+
+/// Answers a question about the datum and the field.
+fn about_field(
+    alloc: Global,
+    field: &str,
+    roots: &Roots,
+    question: &str,
+    lists: &[Vec<i128>],
+    answer: &mut Answer,
+) -> Result<(), Stop> {
     let field = field_of_row(alloc, field)?;
-    if about_words(alloc, &field, &roots, question, lists, answer)? {
+    if about_words(alloc, &field, roots, question, lists, answer)? {
         return Ok(());
     }
     Err(Stop::NoQuestion)
