@@ -11,7 +11,7 @@ use Rattle.lie_audit.specs.SignAnswers.{AreTestedSigns}
 
 -- the adjoint module by a table that stands for the datum is that of the datum
 pub adjoint_of : (d : RootDatum) (c : ConstantTable) (v : Module) → LoadsConstants d (Ok c) → IsAdjoint d (value_of c) v → IsAdjointOf d v
-adjoint_of d c v loads a = (value_of c, (loads.1, a))
+adjoint_of d c v loads a = (value_of c, loads.1, a)
 
 -- it is a module
 pub adjoint_module : (d : RootDatum) (v : Module) → IsAdjointOf d v → IsModule d v

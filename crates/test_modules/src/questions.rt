@@ -16,15 +16,26 @@ pub(crate) fn answers(alloc: Global, lines: &[String]) -> Result<Vec<String>, Al
     let mut field = "";
     let mut signs = "";
     for line in lines {
-        match row(line) {
-            Some(("datum", text)) => datum = text,
-            Some(("field", text)) => field = text,
-            Some(("signs", text)) => signs = text,
-            _ => {}
-        }
+        datum = newest(line, "datum", datum);
+        field = newest(line, "field", field);
+        signs = newest(line, "signs", signs);
         answers.push(with_answer(alloc, datum, field, signs, line)?)?;
     }
     Ok(answers)
+}
+
+/// The text of a row, where it is about this, and the text before it otherwise.
+fn newest<'a>(line: &'a str, question: &str, before: &'a str) -> &'a str {
+    match row(line) {
+        Some((word, text)) => {
+            if word == question {
+                text
+            } else {
+                before
+            }
+        }
+        None => before,
+    }
 }
 
 /// A line with its answer, or with why it has none.

@@ -202,13 +202,21 @@ fn orbit(
     answer: &mut Answer,
 ) -> Result<(), Stop> {
     let signs = signs(alloc, datum, table)?;
-    match orbit_of(alloc, datum, &signs, &weight(v)?) {
+    let v = weight(v)?;
+    match orbit_of(alloc, datum, &signs, &v) {
         Ok(space) => weights(datum, &space, answer),
-        Err(ModuleFault::NotMinuscule(r)) => {
+        Err(fault) => write_fault(fault, answer),
+    }
+}
+
+/// Writes the root at which a weight is not minuscule.
+fn write_fault(fault: ModuleFault, answer: &mut Answer) -> Result<(), Stop> {
+    match fault {
+        ModuleFault::NotMinuscule(r) => {
             answer.word("not minuscule at")?;
             Ok(answer.number(i128::from(r.number()))?)
         }
-        Err(_) => Err(Stop::NoQuestion),
+        _ => Err(Stop::NoQuestion),
     }
 }
 

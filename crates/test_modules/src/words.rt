@@ -22,15 +22,36 @@ pub(crate) fn about_words(
     lists: &[Vec<i128>],
     answer: &mut Answer,
 ) -> Result<bool, Stop> {
-    let word = match (question, lists) {
-        ("matrix of x", [letter]) => root_word(alloc, field, roots, pair(letter)?)?,
-        ("matrix of n and its inverse", [i]) => weyl_word(alloc, field, roots, single(i)?)?,
-        ("matrix of h", [t]) => torus_word(alloc, field, roots, t)?,
+    match (question, lists) {
+        ("matrix of x", [letter]) => {
+            let word = root_word(alloc, field, roots, pair(letter)?)?;
+            shown(alloc, field, roots, &word, answer)?;
+        }
+        ("matrix of n and its inverse", [i]) => {
+            let word = weyl_word(alloc, field, roots, single(i)?)?;
+            shown(alloc, field, roots, &word, answer)?;
+        }
+        ("matrix of h", [t]) => {
+            let word = torus_word(alloc, field, roots, t)?;
+            shown(alloc, field, roots, &word, answer)?;
+        }
         _ => return Ok(false),
-    };
-    let space = adjoint(alloc, &roots.datum)?;
-    rows(&matrix(alloc, field, roots, &space, &word)?, answer)?;
+    }
     Ok(true)
+}
+
+/// Writes the matrix of a word on the adjoint module.
+fn shown(
+    alloc: Global,
+    field: &Field,
+    roots: &Roots,
+    word: &Word,
+    answer: &mut Answer,
+) -> Result<(), Stop>
+    requires { IsWordFor field.now roots.now.datum word.now }
+{
+    let space = adjoint(alloc, &roots.datum)?;
+    rows(&matrix(alloc, field, roots, &space, word)?, answer)
 }
 
 /// Writes a letter behind a word.
@@ -56,14 +77,14 @@ fn root_word(
 }
 
 /// n_i n_i'.
-#[tactic(auto, using(crate::proofs::WordLemmas::weyl_word))]
 fn weyl_word(alloc: Global, field: &Field, roots: &Roots, i: i128) -> Result<Word, Stop>
     ensures { IfOk result (IsWordFor field.now roots.now.datum) }
 {
     let _ = field.q();
     roots.datum.loaded();
     let i = simple_index(&roots.datum, i)?;
-    two_letters(alloc, i as u8)
+    let word = two_letters(alloc, i as u8)?;
+    Ok(word)
 }
 
 /// The two letters n_i and n_i'.
