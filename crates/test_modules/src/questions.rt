@@ -27,13 +27,7 @@ pub(crate) fn answers(alloc: Global, lines: &[String]) -> Result<Vec<String>, Al
 /// The text of a row, where it is about this, and the text before it otherwise.
 fn newest<'a>(line: &'a str, question: &str, before: &'a str) -> &'a str {
     match row(line) {
-        Some((word, text)) => {
-            if word == question {
-                text
-            } else {
-                before
-            }
-        }
+        Some((word, text)) => { if word == question { text } else { before } }
         None => before,
     }
 }

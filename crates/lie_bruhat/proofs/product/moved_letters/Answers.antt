@@ -33,7 +33,7 @@ loop-k-preserved c =
     let read = λ (a : ℕ) (is : a ≡ get_or c.entries-entries.result.now k a). is ∙ ap (λ v. get_or v k a) c.entries-entries.ensures ∙ read_within u k a 0 inside in
     let tested : c.number.result ≡ get_or u k 0 = c.number.ensures ∙ read c.index-entries-k.result c.index-entries-k.is in
     elim c.if-number-ne0.branch [
-      then-number-ne0+in_ok-push w ↦
+      | then-number-ne0+in_ok-push w ↦
           let a = w.index-entries-k-then-number-ne0.result in
           let value = read a w.index-entries-k-then-number-ne0.is in
           let place = w.at.ensures ∙ ap (λ i. number_at i k) (c.m-m.ensures.value ∙ ap (λ (g : SignedFrame). length g.datum.positive) c.frame.view_is) in
