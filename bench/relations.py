@@ -30,11 +30,14 @@ def cartan(kind, n):
 
 
 class Datum:
-    """Rows of the Cartan matrix as simple roots, unit vectors as simple coroots."""
+    """A root datum, by its Cartan matrix, its simple roots and its simple coroots; where these aren't given, the roots are the rows
+    of the Cartan matrix and the coroots unit vectors."""
 
-    def __init__(self, c):
+    def __init__(self, c, roots=None, coroots=None):
         self.c, self.l = c, len(c)
         unit = [tuple(int(i == j) for j in range(self.l)) for i in range(self.l)]
+        self.simple, self.cosimple = roots or c, coroots or unit
+        self.dim = len(self.simple[0])
         seen, todo = {}, [(u, u) for u in unit]
         while todo:
             r, y = todo.pop()
@@ -49,7 +52,8 @@ class Datum:
         self.full = positive + [tuple(-x for x in r) for r in positive]
         self.co = [seen[r] for r in self.full]
         self.place = {r: k for k, r in enumerate(self.full)}
-        self.vec = [tuple(sum(r[i] * c[i][j] for i in range(self.l)) for j in range(self.l)) for r in self.full]
+        self.vec = [combined(*zip(r, self.simple)) for r in self.full]
+        self.covec = [combined(*zip(y, self.cosimple)) for y in self.co]
         self.norm = [sum(self.pair(x, s) ** 2 for s in range(2 * self.m)) for x in self.vec]
 
     def reflected(self, i, r, y):
@@ -60,7 +64,7 @@ class Datum:
 
     def pair(self, x, s):
         """The pairing of a vector with the coroot of the root at place s."""
-        return sum(a * b for a, b in zip(x, self.co[s]))
+        return sum(a * b for a, b in zip(x, self.covec[s]))
 
     def number(self, k):
         return k + 1 if k < self.m else -(k - self.m + 1)
@@ -182,7 +186,7 @@ class Module:
 def adjoint(d, n):
     size = 2 * d.m + d.l
     at = {k: d.m - 1 - k if k < d.m else d.l + k for k in range(2 * d.m)}
-    v = Module(d, [d.vec[d.m - 1 - a] if a < d.m else ((0,) * d.l if a < d.m + d.l else d.vec[a - d.l]) for a in range(size)])
+    v = Module(d, [d.vec[d.m - 1 - a] if a < d.m else ((0,) * d.dim if a < d.m + d.l else d.vec[a - d.l]) for a in range(size)])
     for r in range(2 * d.m):
         e = [[0] * size for _ in range(size)]
         for s in range(2 * d.m):
@@ -191,7 +195,7 @@ def adjoint(d, n):
                 e[at[k]][at[s]] = n(r, s)
         for i in range(d.l):
             e[d.m + i][at[d.opposite(r)]] = d.co[r][i]
-            e[at[r]][d.m + i] = -d.vec[r][i]
+            e[at[r]][d.m + i] = -d.pair(d.vec[r], i)
         v.powers[r], power, k = [], e, 1
         while any(map(any, power)):
             assert all(x % factorial(k) == 0 for row in power for x in row)
@@ -205,7 +209,7 @@ def orbit(d, eta, weight):
     while todo:
         x = todo.pop()
         for i in range(d.l):
-            y = tuple(a - x[i] * b for a, b in zip(x, d.c[i]))
+            y = combined((1, x), (-d.pair(x, i), d.vec[i]))
             if y not in members:
                 members.add(y)
                 todo.append(y)
@@ -218,7 +222,7 @@ def orbit(d, eta, weight):
             e = [[0] * len(weights) for _ in weights]
             for x in weights:
                 if d.pair(x, r) == -1:
-                    e[at[tuple(a + b for a, b in zip(x, d.vec[r]))]][at[x]] = 1
+                    e[at[combined((1, x), (1, d.vec[r]))]][at[x]] = 1
         else:
             i = next(i for i in range(d.l) if abs(sum(d.full[d.reflect(i, r)])) < abs(sum(d.full[r])))
             s = d.reflect(i, r)

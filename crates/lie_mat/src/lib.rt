@@ -23,6 +23,3 @@ mod sums;
 
 pub use entries::{Entries, build};
 pub use mats::Mat;
-
-#[cfg(test)]
-mod tests;

@@ -8,7 +8,7 @@ ghost use Rattle.lie_orbit.specs.Growth.{IsGrowing, HasImage, HasImages, StartsW
 
 use crate::vectors::less_multiple;
 use indexmap::IndexSet;
-use lie_datum::{Datum, RootId, Vector, pairing, simples_first};
+use lie_datum::{Datum, Vector, pairing};
 use std::alloc::{AllocError, Global};
 
 /// As many members of an orbit are kept at most.
@@ -22,13 +22,8 @@ fn reflected(datum: &Datum, i: usize, weight: &Vector) -> Vector
     ensures { result ≡ reflected_weight datum.now i weight.now }
 {
     datum.loaded();
-    simples_first();
-    let simple = RootId::at(i - 1, datum.m());
-    less_multiple(
-        weight,
-        pairing(weight, datum.coroot(simple)),
-        datum.root(simple),
-    )
+    let r = datum.simple(i);
+    less_multiple(weight, pairing(weight, datum.coroot(r)), datum.root(r))
 }
 
 /// Adds the image under s_i of the weight at this place, if it is new and there is room.

@@ -67,11 +67,10 @@ fn place(datum: &Datum, list: &[i128], answer: &mut Answer) -> Result<(), Stop> 
 
 fn at_place(datum: &Datum, list: &[i128], answer: &mut Answer) -> Result<(), Stop> {
     let place = index(single(list)?)?;
-    let m = datum.m();
-    if place >= 2 * m {
+    if place >= datum.root_count() {
         return Err(Stop::NoQuestion);
     }
-    Ok(answer.number(i128::from(RootId::at(place, m).number()))?)
+    Ok(answer.number(i128::from(datum.root_at(place).number()))?)
 }
 
 fn sum(datum: &Datum, list: &[i128], answer: &mut Answer) -> Result<(), Stop> {

@@ -17,7 +17,7 @@ mul-requires-clause-same c =
     let F = c.args.field.now in
     let b = c.args.datum.now.base in
     let a = character F c.args.self.now (simple_root b c.args.i) in
-    let is = divisor_is b c.loaded.ensures.axioms.input F c.args.i c.args.self.now _ _ _ _ _ c.requires.index c.simple_root-r.ensures.root c.root.ensures c.char_of-a.ensures.value c.coroot-divisor.ensures c.inv.ensures.entries in
+    let is = divisor_is b c.loaded.ensures.axioms.input F c.args.i c.args.self.now _ _ _ _ _ c.requires.index c.simple-r.ensures.root c.root.ensures c.char_of-a.ensures.value c.coroot-divisor.ensures c.inv.ensures.entries in
     sym c.requires.long ∙ sym (ap length is ∙ length-map (cocharacter F b.dim (simple_coroot b c.args.i) a) (inv F.given) ∙ length-divisor b c.loaded.ensures.axioms.input F c.args.i a c.requires.index)
 
 pub mul-requires-clause-right : goal.mul-requires-clause-right
@@ -33,4 +33,4 @@ returns c =
     let b = c.args.datum.now.base in
     c.mul.ensures.entries
     ∙ ap (times_each F c.args.self.now)
-    (divisor_is b c.loaded.ensures.axioms.input F c.args.i c.args.self.now _ _ _ _ _ c.requires.index c.simple_root-r.ensures.root c.root.ensures c.char_of-a.ensures.value c.coroot-divisor.ensures c.inv.ensures.entries)
+    (divisor_is b c.loaded.ensures.axioms.input F c.args.i c.args.self.now _ _ _ _ _ c.requires.index c.simple-r.ensures.root c.root.ensures c.char_of-a.ensures.value c.coroot-divisor.ensures c.inv.ensures.entries)
