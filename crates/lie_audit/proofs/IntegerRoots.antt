@@ -18,8 +18,8 @@ use Rattle.lie_const.specs.Signs.{Signs}
 use Rattle.lie_identities.specs.declared.relations.Rel.TheVariants.{S1}
 use Rattle.lie_identities.specs.Audit.{laurent_variables, MeetsIdentities, IsMet}
 use Rattle.lie_identities.proofs.FactorLemmas.{polynomials}
+use Rattle.lie_identities.proofs.SideImages.{relation_image}
 use Rattle.lie_audit.proofs.ListedRelations.{listed-S1}
-use Rattle.lie_audit.proofs.SideImages.{relation_image}
 use Rattle.lie_audit.proofs.ZeroValues.{root_element-zero}
 
 -- ---- powers of -1

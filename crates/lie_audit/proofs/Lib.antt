@@ -7,7 +7,6 @@ pub mod RootEntries
 pub mod WordMatrixLemmas
 pub mod OneAdjointLemmas
 pub mod AnswerLemmas
-pub mod SideImages
 pub mod UnitValues
 pub mod ListedRelations
 pub mod ZeroValues

@@ -30,19 +30,18 @@ use Rattle.lie_letters.proofs.NameLemmas.{named_is, signed_number-numbered}
 use Rattle.lie_letters.proofs.TermLemmas.{IsTermAt, terms_at-roots}
 use Rattle.lie_letters.proofs.CollectingLemmas.{power-number}
 use Rattle.lie_identities.specs.declared.relations.Rel.TheVariants.{S1, S2, S7}
-use Rattle.lie_identities.specs.AuditRelations.{RootElement, side_matrix}
 use Rattle.lie_identities.specs.Audit.{MeetsIdentities, IsMet}
+use Rattle.lie_identities.proofs.SideImages.{term_product, right-S2}
 use Rattle.lie_audit.specs.WordMatrix.{word_matrix}
-use Rattle.lie_audit.specs.Values.{values_at}
 use Rattle.lie_audit.proofs.ListedRelations.{listed-S1, listed-S2, listed-S7}
-use Rattle.lie_audit.proofs.UnitValues.{identity-at}
+use Rattle.lie_audit.proofs.UnitValues.{values_at, identity-at}
 use Rattle.lie_audit.proofs.ZeroValues.{value_at, letters_at, zero-letter, letter-same, weyl-letters, s1-everywhere, s2-everywhere, s7-everywhere}
 
 module _ (f : FiniteField) (v : Module) where
-  -- root elements with values, as factors and as letters
-  factors-letters : (d : RootDatum) (t u : ℕ) (g : ConstantTerm → ℕ) (cs : List ConstantTerm) → side_matrix (values_at f t u) d v (map (λ x. RootElement x.root (g x)) cs) ≡ word_matrix f v (map (λ x. CodeX x.root (g x)) cs)
-  factors-letters d t u g [] = refl
-  factors-letters d t u g (c ∷ cs) = ap (product (field_ring f) (root_element (field_ring f) v c.root (g c))) (factors-letters d t u g cs)
+  -- root elements with values, and their letters
+  terms-letters : (g : ConstantTerm → ℕ) (cs : List ConstantTerm) → term_product (field_ring f) v g cs ≡ word_matrix f v (map (λ x. CodeX x.root (g x)) cs)
+  terms-letters g [] = refl
+  terms-letters g (c ∷ cs) = ap (product (field_ring f) (root_element (field_ring f) v c.root (g c))) (terms-letters g cs)
 
 module _ (f : FiniteField) (d : RootDatum) (c : ConstantTable) (eta : Signs) (v : Module) (meets : MeetsIdentities d c eta v) where
   -- a unit, by its test
@@ -66,7 +65,8 @@ module _ (f : FiniteField) (d : RootDatum) (c : ConstantTable) (eta : Signs) (v 
   s2-holds r s n o before apart first second = s2-everywhere f v d c eta r s first second (λ t u m k p q.
       subst (λ x. word_matrix f v (CodeX s u ∷ (CodeX r x ∷ [])) ≡ word_matrix f v (CodeX r x ∷ (CodeX s u ∷ letters_at f (terms_of c r s) x u))) (first_power t m p)
       (identity-at f t u (unit_of t m p) (unit_of u k q) d c eta v (S2 r s) (listed-S2 d (IsMet d c eta v) meets.relations r s n o before apart).identity
-      ∙ ap (λ M. product (field_ring f) (root_element (field_ring f) v r (power_int f.given t (pos 1))) (product (field_ring f) (root_element (field_ring f) v s u) M)) (factors-letters f v d t u (value_at f (power_int f.given t (pos 1)) u) (terms_of c r s))))
+      ∙ right-S2 (values_at f t u) d v c eta r s
+      ∙ ap (λ M. product (field_ring f) (root_element (field_ring f) v r (power_int f.given t (pos 1))) (product (field_ring f) (root_element (field_ring f) v s u) M)) (terms-letters f v (value_at f (power_int f.given t (pos 1)) u) (terms_of c r s))))
 
   -- S7 at all elements
   pub s7-holds : (i : ℕ) (s : ℤ) → IsSimpleIndex d.base i → IsNumber d s → (t : ℕ) → IsElem (field_ring f) t

@@ -17,9 +17,13 @@ use Rattle.lie_const.specs.Modules.{Module}
 use Rattle.lie_const.specs.Signs.{Signs}
 use Rattle.lie_identities.specs.declared.relations.Rel.{Rel}
 use Rattle.lie_identities.specs.Audit.{laurent_variables, IsIdentity}
+use Rattle.lie_identities.specs.AuditRelations.{Variables}
 use Rattle.lie_identities.proofs.FactorLemmas.{polynomials}
-use Rattle.lie_audit.specs.Values.{image_variables, HoldsAt, values_at}
-use Rattle.lie_audit.proofs.SideImages.{relation_image}
+use Rattle.lie_identities.proofs.SideImages.{image_variables, HoldsAt, relation_image}
+
+-- t and u, and the powers of t, over a field
+abbrev pub values_at : FiniteField → ℕ → ℕ → Variables ℕ
+values_at f t u = record { ring = field_ring f; t_to = power_int f.given t; u = u }
 
 module _ (f : FiniteField) (t u : ℕ) (p : IsUnit f t) (q : IsUnit f u) where
   -- 1 a = a and a 1 = a, for units

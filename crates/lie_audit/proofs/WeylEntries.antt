@@ -13,7 +13,7 @@ use Rattle.lie_poly.specs.Polynomials.{Polynomial, monomial, negative, laurent}
 use Rattle.lie_poly.specs.LaurentLaws.{laurent_ring}
 use Rattle.lie_datum.specs.Vectors.{Vector, pairing}
 use Rattle.lie_const.specs.Modules.{Module, dimension, divided_power, root_element, weyl_element, weyl_inverse}
-use Rattle.lie_audit.proofs.SideImages.{image-root_element}
+use Rattle.lie_identities.proofs.SideImages.{image-root_element}
 use Rattle.lie_audit.proofs.Supports.{supported-monomial, supported-negative}
 use Rattle.lie_audit.proofs.Homogeneous.{IsMoved, IsHomogeneous, homogeneous-product, homogeneous-root}
 use Rattle.lie_audit.proofs.PowerParts.{part_at, part-constant, part-sum, part-cond, part-found}

@@ -4,6 +4,5 @@ pub mod BraidParts
 pub mod WordMatrix
 pub mod BraidAnswers
 pub mod OneAdjoint
-pub mod Values
 pub mod EqualMatrices
 pub mod WeylWeights

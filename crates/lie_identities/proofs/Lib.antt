@@ -2,6 +2,7 @@ pub mod OneAnswer
 pub mod WeightBounds
 mod WorkedExamples
 pub mod FactorLemmas
+pub mod SideImages
 pub mod SideLemmas
 pub mod StepLemmas
 pub mod SizeLemmas

@@ -1,10 +1,10 @@
--- A homomorphism carries the matrices of root elements, of coroots, and of the sides of a relation.
+-- A homomorphism carries the matrices of root elements, of coroots, and of the sides of a relation, so a relation that holds at t and u holds at their images.
 use Rattle.std.proofs.Common.{◌≡◌, ℕ, zero, suc, ℤ, pos, neg_ℤ, List, [], ◌∷◌, map, cond, eqb, refl, sym, ap, ap₂, ◌∙◌}
 use Rattle.lie_ring.specs.Rings.{RingOn, IsElem, IsRing, IsHom, sum_below}
 use Rattle.lie_ring.specs.Powers.{power}
 use Rattle.lie_ring.specs.HomLemmas.{hom-sum, hom_int, hom_neg}
 use Rattle.lie_ring.specs.SumLemmas.{sum-elem, sum-same}
-use Rattle.lie_ring.specs.Matrices.{entry, product, image}
+use Rattle.lie_ring.specs.Matrices.{Matrix, entry, identity, product, image}
 use Rattle.lie_ring.specs.MatrixLemmas.{image-table, table-same}
 use Rattle.lie_ring.specs.MatrixImages.{image-cond, image-product, image-identity}
 use Rattle.lie_datum.specs.RootList.{RootDatum}
@@ -16,7 +16,19 @@ use Rattle.lie_identities.specs.declared.relations.Rel.{Rel}
 use Rattle.lie_identities.specs.declared.relations.Rel.TheVariants.{S1, S2, S6, S7}
 use Rattle.lie_identities.specs.AuditRelations.{Variables, Factor, RootElement, CorootElement, term_value, left_side, right_side, coroot_power, factor_matrix, side_matrix}
 use Rattle.lie_identities.proofs.FactorLemmas.{AreVariables, IsFactorOver, AreFactorsOver, power-elem, cond-elem, step-elem, factor-elem, factor-width, side-height, side-elem, left_over_ring, right_over_ring}
-use Rattle.lie_audit.specs.Values.{image_variables, HoldsAt}
+
+-- the images of t and u
+abbrev pub image_variables : {A B : Type 0} → RingOn B → (A → B) → Variables A → Variables B
+image_variables S h y = record { ring = S; t_to = λ e. h (y.t_to e); u = h y.u }
+
+-- both sides of a relation are equal at t and u
+abbrev pub HoldsAt : {A : Type 0} → Variables A → RootDatum → ConstantTable → Signs → Module → Rel → Type 0
+HoldsAt y d c eta v q = side_matrix y d v (left_side y q) ≡ side_matrix y d v (right_side y d c eta q)
+
+-- the product of root elements, one for each term
+abbrev pub term_product : {A : Type 0} → RingOn A → Module → (Term → A) → List Term → Matrix A
+term_product R v g [] = identity R (dimension v)
+term_product R v g (c ∷ cs) = product R (root_element R v c.root (g c)) (term_product R v g cs)
 
 -- the image of a factor
 abbrev pub image_factor : {A B : Type 0} → (A → B) → Factor A → Factor B
@@ -119,6 +131,16 @@ module _ {A B : Type 0} (y : Variables A) (S : RingOn B) (h : A → B) (d : Root
       ap₂ (λ f xs. RootElement (image_of_root d i s) f ∷ xs)
       (hom.mul _ _ (ring.integers.int_elem (eta i s)) (over.t_elem (pos 1)) ∙ ap (λ x. S.mul x (h (y.t_to (pos 1)))) (hom_int y.ring S h ring target hom (eta i s)))
       (three_to (pos i) (neg_ℤ (pos i)) y.ring.one (y.ring.neg y.ring.one) S.one (S.neg S.one) one_to minus_to)
+
+module _ {A : Type 0} (y : Variables A) (d : RootDatum) (v : Module) where
+  side-terms : (g : Term → A) (cs : List Term) → side_matrix y d v (map (λ x. RootElement x.root (g x)) cs) ≡ term_product y.ring v g cs
+  side-terms g [] = refl
+  side-terms g (c ∷ cs) = ap (product y.ring (root_element y.ring v c.root (g c))) (side-terms g cs)
+
+  -- the right side of S2, by root elements
+  pub right-S2 : (c : ConstantTable) (eta : Signs) (r s : ℤ) → side_matrix y d v (right_side y d c eta (S2 r s))
+      ≡ product y.ring (root_element y.ring v r (y.t_to (pos 1))) (product y.ring (root_element y.ring v s y.u) (term_product y.ring v (term_value y) (terms_of c r s)))
+  right-S2 c eta r s = ap (λ M. product y.ring (root_element y.ring v r (y.t_to (pos 1))) (product y.ring (root_element y.ring v s y.u) M)) (side-terms (term_value y) (terms_of c r s))
 
 -- a relation that holds over a ring holds at the images of t and u
 pub relation_image : {A B : Type 0} (y : Variables A) (S : RingOn B) (h : A → B) (d : RootDatum) (c : ConstantTable) (eta : Signs) (v : Module) (q : Rel) →
