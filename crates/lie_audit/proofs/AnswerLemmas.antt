@@ -1,5 +1,5 @@
 -- The answers on signs and on braid values exclude one another: of two that are first, neither comes before the other.
-use Rattle.std.proofs.Common.{◌≡◌, ◌<◌, ◌≤◌, ◌-◌, ◌⊎◌, ℕ, zero, suc, ℤ, pos, ◌*ℤ◌, List, [], ◌∷◌, length, refl, sym, ap, ap₂, subst, ◌∙◌, ⊎_elim, inl, inr, arith}
+use Rattle.std.proofs.Common.{◌≡◌, ◌-◌, ℕ, zero, suc, ℤ, pos, ◌*ℤ◌, List, [], ◌∷◌, length, refl, sym, ap, ap₂, subst, ◌∙◌, ⊎_elim, inl, inr}
 use Rattle.lie_datum.specs.Numbers.{place}
 use Rattle.lie_datum.specs.RootDatum.{IsSimpleIndex, reflected, is_reflected}
 use Rattle.lie_datum.specs.RootList.{RootDatum, IsLoaded, IsNumber, root_of}

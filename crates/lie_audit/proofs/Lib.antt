@@ -7,3 +7,24 @@ pub mod RootEntries
 pub mod WordMatrixLemmas
 pub mod OneAdjointLemmas
 pub mod AnswerLemmas
+pub mod UnitValues
+pub mod ListedRelations
+pub mod ZeroValues
+pub mod RootRelations
+pub mod GradedWeights
+pub mod CharacterValues
+pub mod Diagonals
+pub mod TorusRelations
+pub mod CorootRelation
+pub mod NamedNumbers
+pub mod WeylRelations
+pub mod RespectLemmas
+pub mod EqualMatricesLemmas
+pub mod Supports
+pub mod Homogeneous
+pub mod PowerParts
+pub mod IntegerRoots
+pub mod WeylEntries
+pub mod WeylWeightsLemmas
+pub mod AuditTest
+mod WorkedExamples

@@ -20,10 +20,8 @@ use Rattle.lie_const.specs.CommutatorTerms.{factorial}
 use Rattle.lie_const.specs.Modules.{Module, IsModule, dimension, divided_powers, divided_power, top}
 use Rattle.lie_const.specs.Adjoint.{RootVector, adjoint_dimension, bracket, IsAdjointOf}
 use Rattle.lie_const.specs.Signs.{SignTable, sign_entry}
-use Rattle.lie_const.proofs.SumLemmas.{not_opposite}
 use Rattle.lie_const.proofs.Norms.{cancel}
 use Rattle.lie_const.proofs.Unique.{unique}
-use Rattle.lie_weight.proofs.NumberOf.{same_vector-true}
 use Rattle.lie_weight.proofs.BasisLemmas.{basis_cases}
 use Rattle.lie_weight.proofs.PowerLemmas.{power_entry, bracket_at, power-next}
 use Rattle.lie_weight.proofs.SmallLemmas.{factorial-positive, adjoint_dim}

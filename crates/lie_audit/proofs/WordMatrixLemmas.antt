@@ -135,11 +135,11 @@ module _ (f : FiniteField) where
     word-square (x ∷ w) = square-times (dimension v) _ _ (letter-square x) (word-square w)
 
     -- 1 M = M
-    one-before : (M : Matrix ℕ) → IsSquareOver f (dimension v) M → product (field_ring f) (identity (field_ring f) (dimension v)) M ≡ M
+    pub one-before : (M : Matrix ℕ) → IsSquareOver f (dimension v) M → product (field_ring f) (identity (field_ring f) (dimension v)) M ≡ M
     one-before M s = ap (λ m. product (field_ring f) (identity (field_ring f) m) M) (sym s.height) ∙ one-product (field_ring f) (field_is_ring f) M s.shaped s.elem
 
     -- M 1 = M
-    one-behind : (M : Matrix ℕ) → IsSquareOver f (dimension v) M → product (field_ring f) M (identity (field_ring f) (dimension v)) ≡ M
+    pub one-behind : (M : Matrix ℕ) → IsSquareOver f (dimension v) M → product (field_ring f) M (identity (field_ring f) (dimension v)) ≡ M
     one-behind M s = ap (λ m. product (field_ring f) M (identity (field_ring f) m)) (sym s.width) ∙ product-one (field_ring f) (field_is_ring f) M s.shaped s.elem
 
     -- the matrix of a joined word

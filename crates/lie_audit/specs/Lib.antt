@@ -4,3 +4,5 @@ pub mod BraidParts
 pub mod WordMatrix
 pub mod BraidAnswers
 pub mod OneAdjoint
+pub mod EqualMatrices
+pub mod WeylWeights

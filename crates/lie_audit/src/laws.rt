@@ -1,8 +1,10 @@
 //! What follows from the definitions alone.
 
 ghost use Rattle.lie_audit.specs.BraidAnswers.{OneBraidAnswer};
+ghost use Rattle.lie_audit.specs.EqualMatrices.{EqualMatrices};
 ghost use Rattle.lie_audit.specs.OneAdjoint.{OneAdjoint, OneSignTable};
 ghost use Rattle.lie_audit.specs.SignAnswers.{OneSignAnswer};
+ghost use Rattle.lie_audit.specs.WeylWeights.{WeylMovesWeights};
 ghost use Rattle.lie_audit.specs.WordMatrix.{JoinedWordsMultiply};
 
 /// A datum and its adjoint module have one answer of `signs`, want of memory aside.
@@ -28,4 +30,16 @@ pub fn one_adjoint()
 /// The signs of a module, all as they should be, stand in one table.
 pub fn one_sign_table()
     ensures { OneSignTable }
+{}
+
+/// On a module that is audited for a lawful frame, words that are joined in its group have equal matrices over its
+/// field.
+pub fn equal_matrices()
+    ensures { EqualMatrices }
+{}
+
+/// On an audited module `n_i` carries the basis vectors of a weight to those of the reflected weight, and a word in
+/// the `n_i` to those of the weight under its reflections.
+pub fn weyl_moves_weights()
+    ensures { WeylMovesWeights }
 {}

@@ -11,6 +11,7 @@
 mod faults;
 mod laws;
 mod relations;
+mod steps;
 
 pub use faults::AuditFault;
 pub use laws::{adjoint_is_light, one_audit_answer, orbit_is_light};
