@@ -8,6 +8,7 @@
 //! `lie_datum` and `thiserror`.
 #![tactic(auto)]
 
+mod factors;
 mod faults;
 mod laws;
 mod relations;
