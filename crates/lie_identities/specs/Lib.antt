@@ -1,3 +1,7 @@
 pub mod AuditRelations
 pub mod Audit
 pub mod LightModules
+pub mod StepLists
+pub mod Columns
+pub mod Additions
+pub mod Moves

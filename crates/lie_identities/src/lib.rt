@@ -12,6 +12,7 @@ mod factors;
 mod faults;
 mod laws;
 mod relations;
+mod steps;
 
 pub use faults::AuditFault;
 pub use laws::{adjoint_is_light, one_audit_answer, orbit_is_light};
