@@ -4,6 +4,7 @@ mod WorkedExamples
 pub mod FactorLemmas
 pub mod SideLemmas
 pub mod StepLemmas
+pub mod StepWalks
 pub mod SizeLemmas
 pub mod EntrySizes
 pub mod StepSizes
@@ -11,6 +12,12 @@ pub mod AdditionLemmas
 pub mod WalkLemmas
 pub mod GrowingSizes
 pub mod NarrowLemmas
+pub mod RowLemmas
 pub mod DegreeLemmas
 pub mod DifferenceLemmas
+pub mod ReadyLemmas
 pub mod OrderLemmas
+pub mod PowerLemmas
+pub mod ColumnLemmas
+pub mod ActionLemmas
+pub mod ComparisonLemmas
