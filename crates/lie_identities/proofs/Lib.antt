@@ -5,6 +5,7 @@ pub mod FactorLemmas
 pub mod SideImages
 pub mod SideLemmas
 pub mod StepLemmas
+pub mod StepWalks
 pub mod SizeLemmas
 pub mod EntrySizes
 pub mod StepSizes
@@ -12,6 +13,12 @@ pub mod AdditionLemmas
 pub mod WalkLemmas
 pub mod GrowingSizes
 pub mod NarrowLemmas
+pub mod RowLemmas
 pub mod DegreeLemmas
 pub mod DifferenceLemmas
+pub mod ReadyLemmas
 pub mod OrderLemmas
+pub mod PowerLemmas
+pub mod ColumnLemmas
+pub mod ActionLemmas
+pub mod ComparisonLemmas

@@ -1,6 +1,6 @@
 -- The relations that are tested one after the other, and the first that fails.
 -- Own: the order.
-use Rattle.std.proofs.Common.{◌≡◌, ℕ, zero, suc, ◌+◌, ◌<◌, List, [], ◌∷◌, ◌++◌, length, take, drop, get_or, refl, sym, ap, ◌∙◌, subst, arith}
+use Rattle.std.proofs.Common.{◌≡◌, ℕ, zero, suc, ◌+◌, ◌<◌, List, [], ◌∷◌, ◌++◌, length, take, drop, get_or, refl, sym, ap, ◌∙◌, subst}
 use Rattle.std.specs.List.{All}
 use Rattle.std.proofs.lemmas.List.{take_more, drop_more}
 use Rattle.std.proofs.lemmas.List.Elements.{All-push}
@@ -13,7 +13,7 @@ use Rattle.lie_identities.specs.AuditRelations.{relations}
 use Rattle.lie_identities.specs.Audit.{IsMet, AreMetBefore}
 
 -- a list in two parts
-two_parts : {X : Type 0} (xs : List X) (k : ℕ) → xs ≡ take k xs ++ drop k xs
+pub two_parts : {X : Type 0} (xs : List X) (k : ℕ) → xs ≡ take k xs ++ drop k xs
 two_parts [] zero = refl
 two_parts [] (suc k) = refl
 two_parts (x ∷ xs) zero = refl

@@ -1,6 +1,6 @@
 -- The walk over the kept entries of a column: what the additions made so far come to, and their sizes.
 -- Own: the walk.
-use Rattle.std.proofs.Common.{◌≡◌, ◌≢◌, ℕ, zero, suc, ◌+◌, ◌*◌, ◌<◌, ◌≤◌, ℤ, pos, negsuc, ◌+ℤ◌, ◌*ℤ◌, nat_abs, List, [], ◌∷◌, ◌++◌, map, cond, eqb, true, false, Bool, refl, sym, ap, ap₂, ◌∙◌, subst, arith, inl, inr}
+use Rattle.std.proofs.Common.{◌≡◌, ℕ, zero, suc, ◌+◌, ◌<◌, ◌≤◌, ℤ, pos, ◌*ℤ◌, nat_abs, List, [], ◌∷◌, ◌++◌, map, cond, eqb, sym, ap, ap₂, ◌∙◌, subst, arith, inl, inr}
 use Rattle.std.specs.Prelude.{◌≤ℤ◌}
 use Rattle.std.proofs.lemmas.Int.{ints}
 use Rattle.std.proofs.lemmas.Bool.{cases_eq}
@@ -8,7 +8,7 @@ use Rattle.lie_ring.specs.Rings.{RingOn, IsElem, IsRing, sum_below}
 use Rattle.lie_ring.specs.Integers.{integers}
 use Rattle.lie_ring.specs.Powers.{power}
 use Rattle.lie_ring.specs.RingLemmas.{mul_zero}
-use Rattle.lie_ring.specs.SumLemmas.{sum-elem, sum-zeros}
+use Rattle.lie_ring.specs.SumLemmas.{sum-elem}
 use Rattle.lie_ring.specs.Matrices.{Matrix, entry, product, AllElem}
 use Rattle.lie_mat.specs.Kept.{AreZeros, IsNextKept}
 use Rattle.lie_const.specs.Modules.{Module, dimension, top, divided_power, root_element}
@@ -18,9 +18,9 @@ use Rattle.lie_identities.specs.declared.steps.Step.{Step}
 use Rattle.lie_identities.specs.Columns.{moved_entry, moved_size, part, part_size}
 use Rattle.lie_identities.specs.StepLists.{steps_of}
 use Rattle.lie_identities.proofs.FactorLemmas.{power-elem}
-use Rattle.lie_identities.proofs.SizeLemmas.{sum_monotone, sum_nonnegative, times_nonnegative}
+use Rattle.lie_identities.proofs.SizeLemmas.{sum_nonnegative, times_nonnegative}
 use Rattle.lie_identities.proofs.SideLemmas.{moved-elem, root-product}
-use Rattle.lie_identities.proofs.StepLemmas.{AreElems, added-elem, added-append, steps-add}
+use Rattle.lie_identities.proofs.StepLemmas.{AreElems, added-append, steps-add}
 use Rattle.lie_identities.proofs.StepSizes.{steps-size}
 
 -- the sizes of what two lists add
@@ -49,11 +49,11 @@ module _ {A : Type 0} (R : RingOn A) (ring : IsRing R) where
     entry_elem : (b : ℕ) → b < dimension v → IsElem R (entry R.zero V b 0)
     entry_elem b l = elem b 0 (omega (arith, l, height)) (omega (arith, width))
 
-    part_elem : (a b : ℕ) → b < dimension v → IsElem R (part R v r f V a b)
+    pub part_elem : (a b : ℕ) → b < dimension v → IsElem R (part R v r f V a b)
     part_elem a b l = ring.laws.mul_elem _ _ (moved-elem R ring v r f a b p) (entry_elem b l)
 
     -- zeros add nothing
-    part_zero : (a b : ℕ) → entry R.zero V b 0 ≡ R.zero → part R v r f V a b ≡ R.zero
+    pub part_zero : (a b : ℕ) → entry R.zero V b 0 ≡ R.zero → part R v r f V a b ≡ R.zero
     part_zero a b e = ap (R.mul (moved_entry R v r f a b)) e ∙ mul_zero R ring.laws (moved_entry R v r f a b) (moved-elem R ring v r f a b p)
 
     -- the walk goes on with the next kept entry
@@ -87,7 +87,7 @@ module _ {A : Type 0} (R : RingOn A) (ring : IsRing R) where
         (sum_nonnegative (top v r) (λ k. power integers (pos (R.size f)) (suc k) *ℤ pos (nat_abs (entry (pos 0) (divided_power v r (suc k)) a b))) (λ k _. times_nonnegative (power integers (pos (R.size f)) (suc k)) (pos (nat_abs (entry (pos 0) (divided_power v r (suc k)) a b))) (power_positive (R.size f) (suc k)) (omega (arith, ints)))) (omega (arith, ints))
 
     -- sums of numbers that are not negative grow
-    sum_longer : (g : ℕ → ℤ) (n m : ℕ) → ((k : ℕ) → pos 0 ≤ℤ g k) → n ≤ m → sum_below integers n g ≤ℤ sum_below integers m g
+    pub sum_longer : (g : ℕ → ℤ) (n m : ℕ) → ((k : ℕ) → pos 0 ≤ℤ g k) → n ≤ m → sum_below integers n g ≤ℤ sum_below integers m g
     sum_longer g n zero h l = subst (λ k. sum_below integers k g ≤ℤ pos 0) (let e : zero ≡ n = omega (arith, l) in e) (omega (arith, ints))
     sum_longer g n (suc m) h l = elim (cases_eq n (suc m)) [
       | inl e ↦ subst (λ k. sum_below integers n g ≤ℤ sum_below integers k g) e (omega (arith, ints))

@@ -30,6 +30,9 @@ use Rattle.lie_const.specs.Modules.{Module, dimension, top, divided_power, root_
 use Rattle.lie_const.specs.Signs.{Signs, image}
 use Rattle.lie_identities.specs.declared.relations.Rel.{Rel}
 use Rattle.lie_identities.specs.declared.relations.Rel.TheVariants.{S1, S2, S6, S7}
+-- a factor of a side
+pub use Rattle.lie_identities.specs.declared.factors.Factor.{Factor}
+pub use Rattle.lie_identities.specs.declared.factors.Factor.TheVariants.{RootElement, CorootElement}
 
 -- ---- the relations
 -- a ring with the powers of t, negative ones too, and with u
@@ -37,11 +40,6 @@ pub record Variables (A : Type 0) : Type 0 where
   pub ring : RingOn A
   pub t_to : ℤ → A
   pub u : A
-
--- a factor of a side
-pub data Factor (A : Type 0) : Type 0 where
-  RootElement : ℤ → A → Factor A
-  CorootElement : ℕ → Factor A
 
 -- N_i
 abbrev pub weyl_factors : {A : Type 0} → RingOn A → ℕ → List (Factor A)

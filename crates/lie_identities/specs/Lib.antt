@@ -5,3 +5,5 @@ pub mod StepLists
 pub mod Columns
 pub mod Additions
 pub mod Moves
+pub mod Actions
+pub mod Comparison

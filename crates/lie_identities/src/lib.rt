@@ -8,8 +8,14 @@
 //! `lie_datum` and `thiserror`.
 #![tactic(auto)]
 
+mod actions;
+mod additions;
+mod columns;
+mod compare;
+mod factors;
 mod faults;
 mod laws;
+mod narrow;
 mod relations;
 mod steps;
 
