@@ -14,3 +14,7 @@ pub mod NarrowLemmas
 pub mod DegreeLemmas
 pub mod DifferenceLemmas
 pub mod OrderLemmas
+pub mod MonomialLemmas
+pub mod Appended
+pub mod ListedRelations
+pub mod TermBounds

@@ -5,3 +5,4 @@ pub mod StepLists
 pub mod Columns
 pub mod Additions
 pub mod Moves
+pub mod Sides

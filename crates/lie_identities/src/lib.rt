@@ -11,7 +11,9 @@
 mod factors;
 mod faults;
 mod laws;
+mod listing;
 mod relations;
+mod sides;
 mod steps;
 
 pub use faults::AuditFault;
