@@ -1,5 +1,7 @@
 -- Monomials: their sizes, degrees and products, and the monomials of the terms of a commutator.
-use Rattle.std.proofs.Common.{◌≡◌, ℕ, zero, suc, ◌≤◌, max, ℤ, pos, negsuc, neg_ℤ, ◌+ℤ◌, ◌*ℤ◌, nat_abs, List, [], ◌∷◌, cond, true, false, Bool, refl, sym, ap, ap₂, subst, ◌∙◌, arith, add-zero, inl, inr, ◌⊎◌, to_z, of_z, w32, w128}
+use Rattle.std.proofs.Common.{◌≡◌, ℕ, zero, suc, ◌≤◌, max, ℤ, pos, negsuc, neg_ℤ, ◌+ℤ◌, ◌*ℤ◌, nat_abs, List, [], ◌∷◌, cond, true, false, Bool, refl, sym, ap, ap₂, subst, ◌∙◌, arith, add-zero, inl, inr, ◌⊎◌}
+use mir.Syntax.{w32, w128}
+use mir.Val.{to_z, of_z}
 use Rattle.std.specs.Ordering.{int_eq}
 use Rattle.std.proofs.lemmas.Int.{ints, to_z-of_z, fits_signed_from_abs}
 use Rattle.lie_datum.proofs.VectorLemmas.{abs_mul}
@@ -57,7 +59,7 @@ power-negative_t zero = refl
 power-negative_t (suc n) =
     ap (λ p. product p (monomial (negsuc 0) (pos 1) (pos 0))) (power-negative_t n)
     ∙ product-monomial (sign n) (pos n) (pos 0) (negsuc 0) (pos 1) (pos 0)
-    ∙ same-monomial _ _ _ _ _ _ (turned (sign n)) (omega (arith, ints)) (omega (arith, ints))
+    ∙ same-monomial (sign n *ℤ negsuc 0) (neg_ℤ (sign n)) (pos n +ℤ pos 1) (pos (suc n)) (pos 0 +ℤ pos 0) (pos 0) (turned (sign n)) (omega (arith, ints)) (omega (arith, ints))
   where
     turned : (x : ℤ) → x *ℤ negsuc 0 ≡ neg_ℤ x
     turned x = omega (arith, ints)
@@ -67,26 +69,26 @@ power-u zero = refl
 power-u (suc n) =
     ap (λ p. product p (monomial (pos 1) (pos 0) (pos 1))) (power-u n)
     ∙ product-monomial (pos 1) (pos 0) (pos n) (pos 1) (pos 0) (pos 1)
-    ∙ same-monomial _ _ _ _ _ _ refl refl (omega (arith, ints))
+    ∙ same-monomial (pos 1 *ℤ pos 1) (pos 1) (pos 0 +ℤ pos 0) (pos 0) (pos n +ℤ pos 1) (pos (suc n)) (omega (arith, ints)) (omega (arith, ints)) (omega (arith, ints))
 
 -- C_ijrs (-t)^i u^j
 pub term_value-monomial : (x : CommutatorTerm) → term_value laurent_variables x ≡ monomial (x.value *ℤ sign x.i) (pos x.i) (pos x.j)
 term_value-monomial x =
     ap (λ p. product (constant x.value) (product p (power laurent laurent_variables.u x.j))) (power-negative_t x.i)
     ∙ ap (λ p. product (constant x.value) (product (monomial (sign x.i) (pos x.i) (pos 0)) p)) (power-u x.j)
-    ∙ ap (product (constant x.value)) (product-monomial (sign x.i) (pos x.i) (pos 0) (pos 1) (pos 0) (pos x.j) ∙ same-monomial _ _ _ _ _ _ (integers_commutative.mul_one (sign x.i) refl) (omega (arith, ints)) (omega (arith, ints)))
+    ∙ ap (product (constant x.value)) (product-monomial (sign x.i) (pos x.i) (pos 0) (pos 1) (pos 0) (pos x.j) ∙ same-monomial (sign x.i *ℤ pos 1) (sign x.i) (pos x.i +ℤ pos 0) (pos x.i) (pos 0 +ℤ pos x.j) (pos x.j) (integers_commutative.mul_one (sign x.i) refl) (omega (arith, ints)) (omega (arith, ints)))
     ∙ product-monomial x.value (pos 0) (pos 0) (sign x.i) (pos x.i) (pos x.j)
-    ∙ same-monomial _ _ _ _ _ _ refl (omega (arith, ints)) (omega (arith, ints))
+    ∙ same-monomial (x.value *ℤ sign x.i) (x.value *ℤ sign x.i) (pos 0 +ℤ pos x.i) (pos x.i) (pos 0 +ℤ pos x.j) (pos x.j) refl (omega (arith, ints)) (omega (arith, ints))
 
 -- eta t
 pub sign-monomial : (n : ℤ) → laurent.mul (laurent.of_int n) (laurent_variables.t_to (pos 1)) ≡ monomial n (pos 1) (pos 0)
-sign-monomial n = product-monomial n (pos 0) (pos 0) (pos 1) (pos 1) (pos 0) ∙ same-monomial _ _ _ _ _ _ (integers_commutative.mul_one n refl) refl refl
+sign-monomial n = product-monomial n (pos 0) (pos 0) (pos 1) (pos 1) (pos 0) ∙ same-monomial (n *ℤ pos 1) n (pos 0 +ℤ pos 1) (pos 1) (pos 0 +ℤ pos 0) (pos 0) (integers_commutative.mul_one n refl) (omega (arith, ints)) (omega (arith, ints))
 
 -- ---- small numbers, as a program reads them
-small128 : (z : ℤ) → nat_abs z ≤ 64 → to_z w128 (of_z w128 z) ≡ z
+pub small128 : (z : ℤ) → nat_abs z ≤ 64 → to_z w128 (of_z w128 z) ≡ z
 small128 z l = to_z-of_z w128 z (fits_signed_from_abs w128 z (omega (arith, l)))
 
-small32 : (z : ℤ) → nat_abs z ≤ 64 → to_z w32 (of_z w32 z) ≡ z
+pub small32 : (z : ℤ) → nat_abs z ≤ 64 → to_z w32 (of_z w32 z) ≡ z
 small32 z l = to_z-of_z w32 z (fits_signed_from_abs w32 z (omega (arith, l)))
 
 -- the monomial of a term, as it is made
@@ -97,7 +99,7 @@ read-term x s i j small e unit p q =
     let two = small128 s (unit_small s unit) in
     let both : to_z w128 (of_z w128 x.value) *ℤ to_z w128 (of_z w128 s) ≡ x.value *ℤ sign x.i = ap₂ ◌*ℤ◌ one (two ∙ e) in
     let bound : nat_abs (x.value *ℤ sign x.i) ≤ 64 = product_small x.value (sign x.i) small.value (subst (λ z. nat_abs z ≤ 1) e (unit_one s unit)) in
-    same-monomial _ _ _ _ _ _
+    same-monomial (to_z w128 (of_z w128 (to_z w128 (of_z w128 x.value) *ℤ to_z w128 (of_z w128 s)))) (x.value *ℤ sign x.i) (to_z w32 (of_z w32 i)) (pos x.i) (to_z w32 (of_z w32 j)) (pos x.j)
     (ap (λ z. to_z w128 (of_z w128 z)) both ∙ small128 (x.value *ℤ sign x.i) bound)
     (ap (λ z. to_z w32 (of_z w32 z)) p ∙ small32 (pos x.i) (let h = small.i in omega (arith, h)))
     (ap (λ z. to_z w32 (of_z w32 z)) q ∙ small32 (pos x.j) (let h = small.j in omega (arith, h)))

@@ -2,15 +2,13 @@
 
 ghost use Rattle.std.specs.Prelude.{◌≡◌, ◌≤◌, ◌^◌, ◌<◌, ◌++◌, ◌∷◌, [], pos, neg_ℤ, nat_abs, map, IfOk, negsuc, ◌⊎◌, Ok};
 ghost use Rattle.std.specs.List.{All};
-ghost use Rattle.lie_ring.specs.Rings.{Fits};
-ghost use Rattle.lie_datum.specs.RootDatum.{IsSimpleIndex};
 ghost use Rattle.lie_const.specs.CommutatorTerms.{sign};
 ghost use Rattle.lie_const.specs.ConstantTables.{LoadsConstants};
 ghost use Rattle.lie_const.specs.Signs.{IsSignTable, eta_of};
-ghost use Rattle.lie_poly.specs.Polynomials.{monomial, constant, laurent, plus, size};
+ghost use Rattle.lie_poly.specs.Polynomials.{monomial, constant, plus, size, degree};
 ghost use Rattle.lie_identities.specs.AuditRelations.{RootElement, CorootElement};
 ghost use Rattle.lie_identities.specs.Audit.{left_factors, right_factors};
-ghost use Rattle.lie_identities.specs.Sides.{factor_weight, IsRelationOf, IsSmallTerm, term_factor};
+ghost use Rattle.lie_identities.specs.Sides.{factor_weight, factor_depth, IsRelationOf, IsSmallTerm, term_factor};
 
 use crate::factors::Factor;
 use crate::relations::Rel;
@@ -26,6 +24,8 @@ pub(crate) struct Side {
     pub factors: Vec<Factor<Poly>>,
     pub sizes: Vec<u128>,
     ghost sized: { sizes.items ≡ map factor_weight factors.items },
+    ghost light: { All (λ x. factor_weight x ≤ 64) factors.items },
+    ghost shallow: { All (λ x. factor_depth x ≤ 3) factors.items },
 }
 
 /// The polynomial c t^et u^eu.
@@ -81,7 +81,9 @@ impl Side {
 
     /// The side with X_r(f) behind it, for f of this size.
     fn times(self, r: RootId, f: Poly, weight: u128) -> Result<Side, AllocError>
-        requires { weight ≡ size f }
+        requires weight { weight ≡ size f }
+        requires light { size f ≤ 64 }
+        requires shallow { degree f ≤ 3 }
         ensures { IfOk result (λ s. s.factors.items ≡ self.factors.items ++ RootElement r f ∷ []) }
     {
         let Side {
