@@ -45,7 +45,7 @@ pos_sum zero f = refl
 pos_sum (suc n) f = ap (λ t. t +ℤ pos (f n)) (pos_sum n f)
 
 -- ---- the steps of a column
-total-append : (n : ℕ) (xs ys : List Step) → steps_total n (xs ++ ys) ≡ steps_total n xs + steps_total n ys
+pub total-append : (n : ℕ) (xs ys : List Step) → steps_total n (xs ++ ys) ≡ steps_total n xs + steps_total n ys
 total-append n [] ys = omega arith
 total-append n (x ∷ xs) ys = let h = total-append n xs ys in omega (arith, h)
 

@@ -138,3 +138,26 @@ fit-small M fit h =
     let l = (fit h.row h.col h.row_within h.col_within).1 in
     let g = h.huge in
     absurd (omega (arith, l, g))
+
+-- ---- entries that are added
+-- an entry that is 0 adds nothing
+pub nothing-added : (s p : ℕ) (e : ℤ) → e ≡ pos 0 → s ≡ s + p * nat_abs e
+nothing-added s p e h = none s p ∙ ap (λ z. s + p * nat_abs z) (sym h)
+  where
+    none : (s p : ℕ) → s ≡ s + p * 0
+    none s p = omega arith
+
+-- another has an absolute value of 1 at least
+pub some-added : (e : ℤ) → ¬ (e ≡ pos 0) → 1 ≤ nat_abs e
+some-added (pos zero) h = absurd (h refl)
+some-added (pos (suc n)) h = omega arith
+some-added (negsuc n) h = omega arith
+
+-- one term more
+pub partial-more : (v : Module) (r : ℤ) (n a b k : ℕ) → partial_size v r n a b k + n ^ (k + 1) * nat_abs (entry (pos 0) (divided_power v r (k + 1)) a b) ≡ partial_size v r n a b (k + 1)
+partial-more v r n a b k =
+    let e : k + 1 ≡ suc k = omega arith in
+    subst (λ j. partial_size v r n a b k + n ^ j * nat_abs (entry (pos 0) (divided_power v r j) a b) ≡ partial_size v r n a b j) (sym e) (last (cond (eqb a b) 1 0) (nat_sum_below k (size_term v r n a b)) (size_term v r n a b k))
+  where
+    last : (x y z : ℕ) → x + y + z ≡ x + (y + z)
+    last x y z = omega arith

@@ -1,6 +1,6 @@
 //! A bound on the product of the sizes of the factors of a side: the product of the greatest sums of their columns.
 
-ghost use Rattle.std.specs.Prelude.{◌≡◌, ◌≤◌, ◌<◌, ◌+◌, ◌^◌, IsTrue, IfSome};
+ghost use Rattle.std.specs.Prelude.{◌≡◌, ◌≤◌, ◌<◌, ◌+◌, ◌*◌, ◌^◌, nat_abs, IsTrue, IfSome};
 ghost use Rattle.std.specs.List.{All};
 ghost use Rattle.lie_mat.specs.Wide.{IsHugeMatrix};
 ghost use Rattle.lie_datum.specs.RootList.{IsNumber};
@@ -20,13 +20,28 @@ use lie_poly::Poly;
 /// 2^126.
 const LIMIT: u128 = 1 << 126;
 
+/// A sum with what a step adds to it, unless that reaches 2^126.
+fn with_step(sum: u128, size: u128, step: Step) -> Option<u128>
+    ensures { IfSome result (λ n. n ≡ sum + size ^ step.power * nat_abs step.value) }
+{
+    with_term(sum, size, step.power, step.value)
+}
+
+/// The larger of two numbers.
+fn larger(a: u128, b: u128) -> u128
+    ensures a { a ≤ result }
+    ensures b { b ≤ result }
+{
+    if a < b { b } else { a }
+}
+
 /// The sum of a column of the size of X_r(f), for f of this size, unless it reaches 2^126.
 fn column_sum(column: &[Step], size: u128) -> Option<u128>
     ensures { IfSome result (λ n. n ≡ 1 + steps_total size column.now) }
 {
     let mut sum = 1;
     for step in column {
-        sum = with_term(sum, size, step.power, step.value)?;
+        sum = with_step(sum, size, *step)?;
     }
     Some(sum)
 }
@@ -38,7 +53,8 @@ fn root_bound(steps: &Steps, r: RootId, size: u128) -> Option<u128>
 {
     let mut greatest = 1;
     for col in 0..steps.module.dim() {
-        greatest = column_sum(steps.column(r, col), size)?.max(greatest);
+        let sum = column_sum(steps.column(r, col), size)?;
+        greatest = larger(sum, greatest);
     }
     Some(greatest)
 }

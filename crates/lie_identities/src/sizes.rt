@@ -24,10 +24,9 @@ use std::alloc::Global;
 /// 2^126.
 const LIMIT: u128 = 1 << 126;
 
-/// A sum with size^k |e| added, unless that reaches 2^126.
+/// A sum with size^k |e| added, unless that reaches 2^126, as it may where a power does and e is 0.
 pub(crate) fn with_term(sum: u128, size: u128, k: u32, e: i128) -> Option<u128>
-    requires { 1 ≤ nat_abs e }
-    ensures { MatchOption result (2 ^ 126 ≤ sum + size ^ k * nat_abs e)
+    ensures { MatchOption result (1 ≤ nat_abs e → 2 ^ 126 ≤ sum + size ^ k * nat_abs e)
         (λ n. (n ≡ sum + size ^ k * nat_abs e) × (n < 2 ^ 126)) }
 {
     let power = size.checked_pow(k)?;
