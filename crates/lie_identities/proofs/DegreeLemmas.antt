@@ -1,6 +1,6 @@
 -- The degrees of the entries of a side are at most the sum of those of its factors.
 -- Own: the degrees, which bound the exponents that are met where a side is multiplied out.
-use Rattle.std.proofs.Common.{◌≡◌, ℕ, zero, suc, ◌+◌, ◌*◌, ◌<◌, ◌≤◌, ℤ, pos, List, [], ◌∷◌, cond, eqb, true, false, Bool, refl, sym, ap, ap₂, ◌∙◌, subst, arith, inl, inr}
+use Rattle.std.proofs.Common.{◌≡◌, ℕ, zero, suc, ◌+◌, ◌*◌, ◌<◌, ◌≤◌, ℤ, pos, List, [], ◌∷◌, ◌++◌, cond, eqb, true, false, Bool, refl, sym, ap, ap₂, ◌∙◌, subst, arith, inl, inr}
 use Rattle.std.specs.Prelude.{max}
 use Rattle.lie_ring.specs.Rings.{RingOn, IsElem, IsRing, sum_below}
 use Rattle.lie_ring.specs.Powers.{power}
@@ -9,9 +9,12 @@ use Rattle.lie_ring.specs.Matrices.{Matrix, table, entry, identity, product, pro
 use Rattle.lie_ring.specs.MatrixLemmas.{entry-table}
 use Rattle.lie_datum.specs.RootList.{RootDatum}
 use Rattle.lie_const.specs.Modules.{Module, dimension, top, divided_power, root_element, root_element_entry}
-use Rattle.lie_identities.specs.AuditRelations.{Variables, Factor, RootElement, CorootElement, coroot_power, factor_matrix, side_matrix}
-use Rattle.lie_identities.proofs.FactorLemmas.{AreVariables, AreFactorsOver, IsFactorOver, power-elem, cond-elem, step-elem, factor-elem, factor-height, factor-width, side-height, side-elem}
-use Rattle.lie_identities.proofs.SideLemmas.{side-wide}
+use Rattle.lie_poly.specs.Polynomials.{Polynomial, laurent, degree}
+use Rattle.lie_poly.specs.LaurentLaws.{laurent_ring}
+use Rattle.lie_identities.specs.Audit.{laurent_variables}
+use Rattle.lie_identities.specs.Columns.{factor_degree, side_degree}
+use Rattle.lie_identities.specs.AuditRelations.{Factor, RootElement, CorootElement, coroot_power, factor_matrix, side_matrix}
+use Rattle.lie_identities.proofs.FactorLemmas.{polynomials, power-elem, cond-elem, step-elem, factor-width, side-height}
 
 -- no entry has a degree above D
 abbrev pub HasDegree : {A : Type 0} → RingOn A → Matrix A → ℕ → Type 0
@@ -32,7 +35,7 @@ module _ {A : Type 0} (R : RingOn A) (ring : IsRing R) where
       omega (arith, c, m)
 
   -- the degree of a power
-  power-degree : (f : A) (k n : ℕ) → IsElem R f → k ≤ n → R.degree (power R f k) ≤ n * R.degree f
+  pub power-degree : (f : A) (k n : ℕ) → IsElem R f → k ≤ n → R.degree (power R f k) ≤ n * R.degree f
   power-degree f zero n p l = let e = ring.sized.degree_one in omega (arith, e)
   power-degree f (suc k) zero p l = absurd (omega (arith, l))
   power-degree f (suc k) (suc n) p l =
@@ -72,30 +75,26 @@ module _ {A : Type 0} (R : RingOn A) (ring : IsRing R) where
       let m = max_within (R.degree (cond (eqb i j) R.one R.zero)) (R.degree (sum_below R (top v r) g)) D (unit-degree (eqb i j) D) terms in
       subst (λ x. R.degree x ≤ D) (sym (entry-table R.zero n n (root_element_entry R v r f) i j c e)) (omega (arith, both, m))
 
-module _ {A : Type 0} (y : Variables A) (d : RootDatum) (v : Module) (ring : IsRing y.ring) (over : AreVariables y) (K : ℕ) (light : (i a : ℕ) → a < dimension v → y.ring.degree (coroot_power y d v i a) ≤ K) where
-  -- the degree of a factor, where the powers of t of the coroots have degrees of at most K
-  abbrev pub factor_degree : Factor A → ℕ
-  factor_degree (RootElement r f) = top v r * y.ring.degree f
-  factor_degree (CorootElement i) = K
-
-  abbrev pub side_degree : List (Factor A) → ℕ
-  side_degree [] = 0
-  side_degree (x ∷ xs) = factor_degree x + side_degree xs
-
-  diagonal-degree : (b : Bool) (x : A) → y.ring.degree x ≤ K → y.ring.degree (cond b x y.ring.zero) ≤ K
+module _ (d : RootDatum) (v : Module) (light : (i a : ℕ) → a < dimension v → degree (coroot_power laurent_variables d v i a) ≤ 800000000) where
+  diagonal-degree : (b : Bool) (x : Polynomial) → degree x ≤ 800000000 → degree (cond b x laurent.zero) ≤ 800000000
   diagonal-degree true x p = p
-  diagonal-degree false x p = let e = ring.sized.degree_zero in omega (arith, e)
+  diagonal-degree false x p = let e = laurent_ring.sized.degree_zero in omega (arith, e)
 
-  factor-degree : (x : Factor A) → IsFactorOver y.ring x → HasDegree y.ring (factor_matrix y d v x) (factor_degree x)
-  factor-degree (RootElement r f) p a b c e = root-degree y.ring ring v r f p a b c e
-  factor-degree (CorootElement i) p a b c e =
-      subst (λ x. y.ring.degree x ≤ K) (sym (entry-table y.ring.zero (dimension v) (dimension v) (λ a b. cond (eqb a b) (coroot_power y d v i a) y.ring.zero) a b c e))
-      (diagonal-degree (eqb a b) (coroot_power y d v i a) (light i a c))
+  factor-degree : (x : Factor Polynomial) → HasDegree laurent (factor_matrix laurent_variables d v x) (factor_degree v x)
+  factor-degree (RootElement r f) a b c e = root-degree laurent laurent_ring v r f refl a b c e
+  factor-degree (CorootElement i) a b c e =
+      subst (λ x. degree x ≤ 800000000) (sym (entry-table laurent.zero (dimension v) (dimension v) (λ a b. cond (eqb a b) (coroot_power laurent_variables d v i a) laurent.zero) a b c e))
+      (diagonal-degree (eqb a b) (coroot_power laurent_variables d v i a) (light i a c))
 
   -- the degrees of a side
-  pub side-degree : (xs : List (Factor A)) → AreFactorsOver y.ring xs → HasDegree y.ring (side_matrix y d v xs) (side_degree xs)
-  side-degree [] p a b c e =
-      subst (λ x. y.ring.degree x ≤ 0) (sym (entry-table y.ring.zero (dimension v) (dimension v) (λ i j. cond (eqb i j) y.ring.one y.ring.zero) a b c e)) (unit-degree y.ring ring (eqb a b) 0)
-  side-degree (x ∷ xs) p a b c e =
-      product-degree y.ring ring (factor_matrix y d v x) (side_matrix y d v xs) (factor_degree x) (side_degree xs) (factor-width y d v ring over x ∙ sym (side-height y d v ring over xs))
-      (factor-elem y d v ring over x p.0) (side-elem y d v ring over xs p.1) (factor-degree x p.0) (side-degree xs p.1) a b c e
+  pub side-degree : (xs : List (Factor Polynomial)) → HasDegree laurent (side_matrix laurent_variables d v xs) (side_degree v xs)
+  side-degree [] a b c e =
+      subst (λ x. degree x ≤ 0) (sym (entry-table laurent.zero (dimension v) (dimension v) (λ i j. cond (eqb i j) laurent.one laurent.zero) a b c e)) (unit-degree laurent laurent_ring (eqb a b) 0)
+  side-degree (x ∷ xs) a b c e =
+      product-degree laurent laurent_ring (factor_matrix laurent_variables d v x) (side_matrix laurent_variables d v xs) (factor_degree v x) (side_degree v xs) (factor-width laurent_variables d v laurent_ring polynomials x ∙ sym (side-height laurent_variables d v laurent_ring polynomials xs))
+      (λ i j _ _. refl) (λ i j _ _. refl) (factor-degree x) (side-degree xs) a b c e
+
+-- the degree of the last factors
+pub degree-last : (v : Module) (ys xs : List (Factor Polynomial)) → side_degree v xs ≤ side_degree v (ys ++ xs)
+degree-last v [] xs = omega arith
+degree-last v (y ∷ ys) xs = let h = degree-last v ys xs in omega (arith, h)

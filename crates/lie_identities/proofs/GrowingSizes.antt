@@ -32,7 +32,7 @@ module _ (v : Module) where
   size_terms r n a b = sum_nonnegative (top v r) _ (λ k _. times_nonnegative (power integers (pos n) (suc k)) (pos (nat_abs (entry (pos 0) (divided_power v r (suc k)) a b))) (power_nonnegative n (suc k)) (omega (arith, ints)))
 
   -- the entries of the size of X_r(f)
-  size_entry_nonnegative : (r : ℤ) (n a b : ℕ) → pos 0 ≤ℤ size_entry v r n a b
+  pub size_entry_nonnegative : (r : ℤ) (n a b : ℕ) → pos 0 ≤ℤ size_entry v r n a b
   size_entry_nonnegative r n a b =
       let s = size_terms r n a b in
       let o = unit_nonnegative (eqb a b) in

@@ -53,7 +53,7 @@ module _ {A : Type 0} (R : RingOn A) (ring : IsRing R) (v : Module) (r : ℤ) (f
   whole a c i j = last_small v R [] (RootElement r f ∷ xs) small a c i j
 
   -- one term of it
-  one_term : (a b c : ℕ) → a < dimension v → b < dimension v → c < dimension v → (size_entry v r (R.size f) a b *ℤ entry (pos 0) (side_size R v xs) b c) ≤ℤ entry (pos 0) (side_size R v (RootElement r f ∷ xs)) a c
+  pub one_term : (a b c : ℕ) → a < dimension v → b < dimension v → c < dimension v → (size_entry v r (R.size f) a b *ℤ entry (pos 0) (side_size R v xs) b c) ≤ℤ entry (pos 0) (side_size R v (RootElement r f ∷ xs)) a c
   one_term a b c i j l =
       let M = size_element v r (R.size f) in
       let N = side_size R v xs in
@@ -66,7 +66,7 @@ module _ {A : Type 0} (R : RingOn A) (ring : IsRing R) (v : Module) (r : ℤ) (f
       (subst (λ z. (z *ℤ entry (pos 0) N b c) ≤ℤ sum_below integers n (product_term integers M N a c)) (entry-table (pos 0) n n (size_entry v r (R.size f)) a b i j) t)
 
   -- a power and an entry of a divided power are under the size of X_r(f)
-  under_size : (b : ℕ) (s : Step) → b < dimension v → IsStepOf v r b s → (power integers (pos (R.size f)) s.power *ℤ pos (nat_abs s.value)) ≤ℤ size_entry v r (R.size f) s.row b
+  pub under_size : (b : ℕ) (s : Step) → b < dimension v → IsStepOf v r b s → (power integers (pos (R.size f)) s.power *ℤ pos (nat_abs s.value)) ≤ℤ size_entry v r (R.size f) s.row b
   under_size b s j is = by_power s.power is.first is.last (ap nat_abs is.value)
     where
       by_power : (k : ℕ) → 1 ≤ k → k ≤ top v r → nat_abs s.value ≡ nat_abs (entry (pos 0) (divided_power v r k) s.row b) → (power integers (pos (R.size f)) k *ℤ pos (nat_abs s.value)) ≤ℤ size_entry v r (R.size f) s.row b

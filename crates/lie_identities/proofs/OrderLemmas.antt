@@ -13,7 +13,7 @@ use Rattle.lie_identities.specs.AuditRelations.{relations}
 use Rattle.lie_identities.specs.Audit.{IsMet, AreMetBefore}
 
 -- a list in two parts
-two_parts : {X : Type 0} (xs : List X) (k : ℕ) → xs ≡ take k xs ++ drop k xs
+pub two_parts : {X : Type 0} (xs : List X) (k : ℕ) → xs ≡ take k xs ++ drop k xs
 two_parts [] zero = refl
 two_parts [] (suc k) = refl
 two_parts (x ∷ xs) zero = refl

@@ -49,11 +49,11 @@ module _ {A : Type 0} (R : RingOn A) (ring : IsRing R) where
     entry_elem : (b : ℕ) → b < dimension v → IsElem R (entry R.zero V b 0)
     entry_elem b l = elem b 0 (omega (arith, l, height)) (omega (arith, width))
 
-    part_elem : (a b : ℕ) → b < dimension v → IsElem R (part R v r f V a b)
+    pub part_elem : (a b : ℕ) → b < dimension v → IsElem R (part R v r f V a b)
     part_elem a b l = ring.laws.mul_elem _ _ (moved-elem R ring v r f a b p) (entry_elem b l)
 
     -- zeros add nothing
-    part_zero : (a b : ℕ) → entry R.zero V b 0 ≡ R.zero → part R v r f V a b ≡ R.zero
+    pub part_zero : (a b : ℕ) → entry R.zero V b 0 ≡ R.zero → part R v r f V a b ≡ R.zero
     part_zero a b e = ap (R.mul (moved_entry R v r f a b)) e ∙ mul_zero R ring.laws (moved_entry R v r f a b) (moved-elem R ring v r f a b p)
 
     -- the walk goes on with the next kept entry
@@ -87,7 +87,7 @@ module _ {A : Type 0} (R : RingOn A) (ring : IsRing R) where
         (sum_nonnegative (top v r) (λ k. power integers (pos (R.size f)) (suc k) *ℤ pos (nat_abs (entry (pos 0) (divided_power v r (suc k)) a b))) (λ k _. times_nonnegative (power integers (pos (R.size f)) (suc k)) (pos (nat_abs (entry (pos 0) (divided_power v r (suc k)) a b))) (power_positive (R.size f) (suc k)) (omega (arith, ints)))) (omega (arith, ints))
 
     -- sums of numbers that are not negative grow
-    sum_longer : (g : ℕ → ℤ) (n m : ℕ) → ((k : ℕ) → pos 0 ≤ℤ g k) → n ≤ m → sum_below integers n g ≤ℤ sum_below integers m g
+    pub sum_longer : (g : ℕ → ℤ) (n m : ℕ) → ((k : ℕ) → pos 0 ≤ℤ g k) → n ≤ m → sum_below integers n g ≤ℤ sum_below integers m g
     sum_longer g n zero h l = subst (λ k. sum_below integers k g ≤ℤ pos 0) (let e : zero ≡ n = omega (arith, l) in e) (omega (arith, ints))
     sum_longer g n (suc m) h l = elim (cases_eq n (suc m)) [
       | inl e ↦ subst (λ k. sum_below integers n g ≤ℤ sum_below integers k g) e (omega (arith, ints))

@@ -6,14 +6,15 @@
 --   x_1 .. x_k v_b                   side_column y d v xs b        xs the factors
 --   X_r(f) - 1, in row a, column b   moved_entry R v r f a b       its size: moved_size v r (size of f) a b
 --   what row b adds in row a         part R v r f V a b            V a column
-use Rattle.std.specs.Prelude.{◌≡◌, ℕ, suc, ◌+◌, ◌*◌, ◌^◌, ◌<◌, ◌≤◌, ℤ, pos, ◌*ℤ◌, nat_abs, unsigned_abs, List, [], ◌∷◌, cond, eqb, length, slice_index_or}
+use Rattle.std.specs.Prelude.{◌≡◌, ℕ, suc, ◌+◌, ◌*◌, ◌^◌, ◌<◌, ◌≤◌, ℤ, pos, ◌*ℤ◌, nat_abs, List, [], ◌∷◌, cond, eqb, slice_index_or}
 use Rattle.std.specs.List.{All}
 use Rattle.lie_ring.specs.Rings.{RingOn, Fits, sum_below}
 use Rattle.lie_ring.specs.Integers.{integers}
 use Rattle.lie_ring.specs.Powers.{power}
 use Rattle.lie_ring.specs.Matrices.{Matrix, table, entry, product, AllFit, IsShaped}
-use Rattle.lie_datum.specs.RootDatum.{IsSimpleIndex}
-use Rattle.lie_datum.specs.RootList.{RootDatum}
+use Rattle.lie_datum.specs.RootDatum.{simple_coroot, IsSimpleIndex}
+use Rattle.lie_datum.specs.Vectors.{pairing}
+use Rattle.lie_datum.specs.RootList.{RootDatum, IsNumber}
 use Rattle.lie_const.specs.Modules.{Module, dimension, top, divided_power}
 use Rattle.lie_mat.specs.Wide.{IsHugeMatrix}
 use Rattle.lie_poly.specs.Polynomials.{Polynomial, laurent, degree}
@@ -61,9 +62,13 @@ abbrev pub side_degree : Module → List (Factor Polynomial) → ℕ
 side_degree v [] = 0
 side_degree v (x ∷ xs) = factor_degree v x + side_degree v xs
 
+-- no weight has a pairing above that bound with a simple coroot
+abbrev pub HasLightPairings : RootDatum → Module → Type 0
+HasLightPairings d v = (i a : ℕ) → a < dimension v → nat_abs (pairing (slice_index_or v.weights a []) (simple_coroot d.base i)) ≤ 800000000
+
 -- a factor of a root of the datum, with a polynomial that may be handed to a call, or of a simple coroot
 abbrev pub IsFactorOf : RootDatum → Factor Polynomial → Type 0
-IsFactorOf d (RootElement r f) = (1 ≤ unsigned_abs r) × (unsigned_abs r ≤ length d.positive) × Fits laurent f
+IsFactorOf d (RootElement r f) = IsNumber d r × Fits laurent f
 IsFactorOf d (CorootElement i) = IsSimpleIndex d.base i
 
 -- such factors whose side is not large, and whose exponents stay below 2^30

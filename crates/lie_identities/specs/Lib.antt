@@ -5,4 +5,9 @@ pub mod StepLists
 pub mod Columns
 pub mod Additions
 pub mod Moves
+pub mod Actions
+pub mod Comparison
 pub mod Sides
+pub mod Grading
+pub mod Sizes
+pub mod Audited

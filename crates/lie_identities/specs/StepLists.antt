@@ -5,7 +5,7 @@
 --   the entry n of E_r^(k) in row a           step k a n
 --   those of E_r^(k) in column b              steps_in v r b k
 --   those of E_r^(1), E_r^(2), ..             steps_of v r b
-use Rattle.std.specs.Prelude.{◌≡◌, ℕ, ◌*◌, ◌<◌, ◌≤◌, ℤ, pos, List, [], ◌∷◌, cond, map}
+use Rattle.std.specs.Prelude.{◌≡◌, ℕ, suc, ◌*◌, ◌^◌, ◌<◌, ◌≤◌, ℤ, pos, nat_abs, List, [], ◌∷◌, cond, map}
 use Rattle.std.specs.List.{flat_map, range_with_len}
 use Rattle.std.specs.Ordering.{int_eq}
 use Rattle.lie_ring.specs.Matrices.{entry}
@@ -43,3 +43,19 @@ pub record IsStepOf (v : Module) (r : ℤ) (b : ℕ) (s : Step) : Type 0 where
   pub last : s.power ≤ top v r
   pub row : s.row < dimension v
   pub value : s.value ≡ entry (pos 0) (divided_power v r s.power) s.row b
+
+-- the entries of the first n divided powers in a column may be handed to a call
+abbrev pub HasSmallColumn : Module → ℤ → ℕ → ℕ → Type 0
+HasSmallColumn v r n b = (k a : ℕ) → k < n → a < dimension v → nat_abs (entry (pos 0) (divided_power v r (suc k)) a b) < 2 ^ 126
+
+-- those of all that are kept, in the first n columns
+abbrev pub HasSmallColumns : Module → ℤ → ℕ → Type 0
+HasSmallColumns v r n = (b : ℕ) → b < n → HasSmallColumn v r (top v r) b
+
+-- those of all roots
+abbrev pub HasSmallEntries : Module → Type 0
+HasSmallEntries v = (r : ℤ) → HasSmallColumns v r (dimension v)
+
+-- at most 16,384 matrices are kept for a root
+abbrev pub HasFewPowers : Module → Type 0
+HasFewPowers v = (r : ℤ) → top v r ≤ 16384

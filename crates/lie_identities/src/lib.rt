@@ -12,14 +12,26 @@
 //! `lie_datum` and `thiserror`.
 #![tactic(auto)]
 
+mod actions;
+mod additions;
+mod audited;
+mod auditing;
+mod bounds;
+mod columns;
+mod compare;
 mod factors;
 mod faults;
+mod grading;
 mod laws;
 mod listing;
+mod narrow;
 mod relations;
 mod sides;
+mod sizes;
 mod steps;
 
+pub use audited::Audited;
+pub use auditing::audit;
 pub use faults::AuditFault;
 pub use laws::{adjoint_is_light, one_audit_answer, orbit_is_light};
 pub use relations::Rel;
