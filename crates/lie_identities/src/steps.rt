@@ -85,6 +85,7 @@ fn steps_of_root(
     r: RootId,
 ) -> Result<Vec<Vec<Step>>, AllocError>
     requires dim { dim ≡ dimension «module».now }
+    requires few { dim ≤ 1024 }
     requires r { unsigned_abs r ≤ «module».now.positive }
     ensures value { IfOk result (λ c. map (λ s. s.items) c.items ≡ root_steps «module».now r) }
     ensures few { OnOk result (top «module».now r ≤ 16384) }

@@ -1,5 +1,8 @@
 use Rattle.std.proofs.Common.{◌≡◌, ◌∷◌, ◌++◌, ◌<◌, [], sym, ap, subst, ◌∙◌, arith, append_assoc, pos, nat_abs, ◌^◌}
+use mir.Syntax.{w128}
+use mir.Val.{to_z, of_z}
 use Rattle.std.specs.List.{flat_map, range_with_len}
+use Rattle.std.proofs.lemmas.Int.{ints}
 use Rattle.std.proofs.lemmas.List.{append-nil}
 use Rattle.lie_ring.specs.Matrices.{entry}
 use Rattle.lie_const.specs.Modules.{dimension}
@@ -18,11 +21,16 @@ loop-row-preserved c =
     let next = c.in-Some.ensures.next in
     let within = next.within in
     let tall = c.power-matrix.ensures.square.height in
-    let x = step c.args.power c.in-Some.row c.in-Some.value.now ∷ [] in
+    let broad = c.power-matrix.ensures.square.width in
+    let col = c.requires.col in
+    let fit = (c.power-matrix.ensures.square.fit c.in-Some.row c.args.col within (omega (arith, col, broad))).1 in
+    let l : nat_abs c.in-Some.value.now < 2 ^ 126 = subst (λ n. nat_abs n < 2 ^ 126) (sym next.here) fit in
+    let back : to_z w128 (of_z w128 c.in-Some.value.now) ≡ c.in-Some.value.now = omega (arith, ints, l) in
     record {
       low = omega (arith, within, tall);
       list =
           c.in_ok-push.ensures.items
+          ∙ ap (λ n. c.loop-row.steps.items ++ (step c.args.power c.in-Some.row n ∷ [])) back
           ∙ ap (λ ys. ys ++ (step c.args.power c.in-Some.row c.in-Some.value.now ∷ [])) c.loop-row.invariant.list
           ∙ append_assoc old (flat_map f (range_with_len 0 c.loop-row.from)) (step c.args.power c.in-Some.row c.in-Some.value.now ∷ [])
           ∙ ap (λ ys. old ++ ys) (step-next v c.args.r c.args.col c.args.power c.power-matrix.result.now c.power-matrix.ensures.value c.loop-row.from c.in-Some.row c.in-Some.value.now next);

@@ -39,7 +39,7 @@ invariant_of-result c =
     record {
       is_module = shape;
       light = c.requires.light;
-      thin = let few = c.dim.ensures.few in let e = c.dim.ensures.value in omega (arith, few, e);
+      thin = let few = c.dim-dim.ensures.few in let e = c.dim-dim.ensures.value in omega (arith, few, e);
       pairings = light-pairings d v c.loaded.ensures c.requires.light;
       few = few-everywhere d v shape (λ h l. i.few h (omega (arith, l, full, p)));
       small = small-everywhere d v shape (λ h l. i.small h (omega (arith, l, full, p)));
