@@ -1,11 +1,9 @@
 -- The factors of a side with their powers, one after the other.
-use Rattle.std.proofs.Common.{◌≡◌, ◌≢◌, ℕ, zero, suc, ◌+◌, ◌-◌, ◌<◌, ◌≤◌, ℤ, List, [], ◌∷◌, ◌++◌, map, length, take, drop, get_or, true, false, Bool, refl, sym, ap, ap₂, ◌∙◌, subst, arith}
+use Rattle.std.proofs.Common.{◌≡◌, ℕ, zero, suc, ◌+◌, ◌<◌, ℤ, List, [], ◌∷◌, ◌++◌, map, length, take, drop, get_or, false, Bool, refl, sym, ap, ap₂, ◌∙◌, subst, arith}
 use Rattle.std.specs.Prelude.{◌==◌, not}
-use Rattle.std.specs.List.{All}
 use Rattle.std.specs.Global.{Vec}
 use Rattle.std.proofs.lemmas.Bool.{ne_eqb, false≢true}
 use Rattle.std.proofs.lemmas.List.{map-append, length-map}
-use Rattle.std.proofs.lemmas.List.Elements.{All-get_or}
 use Rattle.std.proofs.Math.ListN.{get_or-map}
 use Rattle.lie_ring.specs.Matrices.{Matrix, product}
 use Rattle.lie_datum.specs.Vectors.{Vector, pairing}
@@ -15,7 +13,7 @@ use Rattle.lie_datum.proofs.Roots.{simple_covector}
 use Rattle.lie_datum.proofs.LoadedLaws.{short}
 use Rattle.lie_const.specs.Modules.{Module, IsModule, dimension}
 use Rattle.lie_poly.specs.Polynomials.{Polynomial, laurent}
-use Rattle.lie_identities.specs.AuditRelations.{Factor, RootElement, CorootElement, factor_matrix}
+use Rattle.lie_identities.specs.AuditRelations.{Factor, factor_matrix}
 use Rattle.lie_identities.specs.Audit.{laurent_variables}
 use Rattle.lie_identities.specs.declared.steps.Step.{Step}
 use Rattle.lie_identities.specs.StepLists.{HasSmallEntries}

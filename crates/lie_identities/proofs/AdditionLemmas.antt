@@ -1,8 +1,8 @@
 -- A column to which one of a list of polynomials was added, and what is left to add.
-use Rattle.std.proofs.Common.{◌≡◌, ◌≢◌, ℕ, zero, suc, ◌+◌, ◌<◌, ◌≤◌, ◌^◌, List, [], ◌∷◌, length, drop, get_or, cond, eqb, true, false, Bool, refl, sym, ap, ap₂, ◌∙◌, subst, arith, inl, inr}
+use Rattle.std.proofs.Common.{◌≡◌, ◌≢◌, ℕ, zero, suc, ◌+◌, ◌<◌, ◌≤◌, ◌^◌, List, [], ◌∷◌, length, drop, get_or, cond, eqb, true, false, Bool, refl, sym, ap, ◌∙◌, arith, inl, inr}
 use Rattle.std.proofs.lemmas.List.{drop_more}
 use Rattle.std.proofs.lemmas.Bool.{eq-eqb, ne_eqb, cases_eq}
-use Rattle.lie_ring.specs.Rings.{RingOn, IsElem, IsRing, Fits}
+use Rattle.lie_ring.specs.Rings.{RingOn, IsElem, IsRing}
 use Rattle.lie_ring.specs.Matrices.{Matrix, entry, with_entry, AllFit}
 use Rattle.lie_ring.specs.MatrixLemmas.{entry-table}
 use Rattle.lie_ring.specs.RingLemmas.{zero_add}

@@ -1,26 +1,22 @@
 -- A column: the first one, what a coroot makes of it, and which basis vectors a factor does not move.
-use Rattle.std.proofs.Common.{◌≡◌, ◌≢◌, ℕ, zero, suc, ◌+◌, ◌*◌, ◌-◌, ◌<◌, ◌≤◌, ◌^◌, ℤ, pos, List, [], ◌∷◌, ◌++◌, map, length, get_or, cond, eqb, true, false, Bool, refl, sym, ap, ap₂, ◌∙◌, subst, arith, inl, inr}
-use Rattle.std.specs.Prelude.{◌≤ℤ◌}
-use Rattle.std.proofs.lemmas.Int.{ints}
-use Rattle.std.proofs.lemmas.Bool.{eq-eqb, ne_eqb, cases_eq, cases_lt}
-use Rattle.lie_ring.specs.Rings.{Fits, sum_below}
-use Rattle.lie_ring.specs.Integers.{integers}
+use Rattle.std.proofs.Common.{◌≡◌, ℕ, ◌+◌, ◌<◌, ℤ, [], map, cond, eqb, true, false, Bool, refl, sym, ap, ap₂, ◌∙◌, subst, arith, inl, inr}
+use Rattle.std.proofs.lemmas.Bool.{eq-eqb, ne_eqb, cases_eq}
+use Rattle.lie_ring.specs.Rings.{Fits}
 use Rattle.lie_ring.specs.RingLemmas.{zero_mul, mul_zero}
 use Rattle.lie_ring.specs.SumLemmas.{sum-only, sum-zeros}
-use Rattle.lie_ring.specs.Matrices.{Matrix, table, entry, zero_matrix, with_entry, product, product_entry, product_term, AllElem, AllFit, IsShaped}
+use Rattle.lie_ring.specs.Matrices.{Matrix, entry, zero_matrix, with_entry, product, product_entry, product_term, AllElem, AllFit, IsShaped}
 use Rattle.lie_ring.specs.MatrixLemmas.{entry-table, table-same, table-shaped, matrix-same}
 use Rattle.lie_datum.specs.RootList.{RootDatum}
-use Rattle.lie_const.specs.Modules.{Module, dimension, top, root_element}
-use Rattle.lie_poly.specs.Polynomials.{Polynomial, laurent, size}
+use Rattle.lie_const.specs.Modules.{Module, dimension, root_element}
+use Rattle.lie_poly.specs.Polynomials.{Polynomial, laurent}
 use Rattle.lie_poly.specs.LaurentLaws.{laurent_ring}
-use Rattle.lie_identities.specs.AuditRelations.{Factor, RootElement, CorootElement, coroot_power, factor_matrix}
+use Rattle.lie_identities.specs.AuditRelations.{CorootElement, coroot_power, factor_matrix}
 use Rattle.lie_identities.specs.Audit.{laurent_variables}
-use Rattle.lie_identities.specs.Columns.{unit_column, side_column, moved_entry, part, part_size, IsColumn}
+use Rattle.lie_identities.specs.Columns.{unit_column, moved_entry, part, part_size, IsColumn}
 use Rattle.lie_identities.specs.StepLists.{steps_of}
 use Rattle.lie_identities.specs.Moves.{AddsRows, addition, IsRowMultiplied, AreRowsMultiplied}
 use Rattle.lie_identities.specs.Additions.{added_in}
 use Rattle.lie_identities.proofs.SizeLemmas.{sum_nonnegative}
-use Rattle.lie_identities.proofs.SideLemmas.{moved-elem}
 use Rattle.lie_identities.proofs.StepLemmas.{steps-add}
 use Rattle.lie_identities.proofs.WalkLemmas.{part_zero, part_nonnegative}
 use Rattle.lie_identities.proofs.RowLemmas.{rows-product}

@@ -1,5 +1,5 @@
 -- Two columns that are compared from above.
-use Rattle.std.proofs.Common.{◌≡◌, ◌≢◌, ℕ, zero, suc, ◌+◌, ◌-◌, ◌<◌, ◌≤◌, ◌⊎◌, ℤ, List, refl, sym, ap, ◌∙◌, subst, arith, inl, inr}
+use Rattle.std.proofs.Common.{◌≡◌, ◌≢◌, ℕ, ◌+◌, ◌<◌, ◌≤◌, List, sym, ◌∙◌, subst, arith, inl, inr}
 use Rattle.std.proofs.lemmas.Bool.{cases_lt, cases_eq}
 use Rattle.lie_ring.specs.Matrices.{Matrix, entry}
 use Rattle.lie_ring.specs.MatrixLemmas.{matrix-same}
@@ -13,7 +13,7 @@ use Rattle.lie_identities.specs.declared.faults.AuditFault.TheVariants.{NoMemory
 use Rattle.lie_identities.specs.AuditRelations.{Factor, side_matrix}
 use Rattle.lie_identities.specs.Audit.{laurent_variables, IsFirstDifferentEntry}
 use Rattle.lie_identities.specs.Columns.{side_column, IsColumn}
-use Rattle.lie_identities.specs.Comparison.{IsNextRow, IsFirstDifferentRow, IsFaultIn, IsColumnDifference, IsDifference}
+use Rattle.lie_identities.specs.Comparison.{IsNextRow, IsColumnDifference, IsDifference}
 use Rattle.lie_identities.proofs.DifferenceLemmas.{difference-by_columns}
 use Rattle.lie_identities.proofs.ReadyLemmas.{column-tall}
 
@@ -68,7 +68,9 @@ fault-of_column d v q ls rs col (Large p) l same h = h
 fault-of_column d v q ls rs col (Relation p row c et eu x y) l same h =
     let f = h.1 in
     let tall = column-tall d v col ls in
-    let w = f.within in
-    (h.0, subst (λ i. IsFirstDifferentEntry (side_matrix laurent_variables d v ls) (side_matrix laurent_variables d v rs) i c et eu x y) (sym f.row_is)
-    (subst (λ j. IsFirstDifferentEntry (side_matrix laurent_variables d v ls) (side_matrix laurent_variables d v rs) (f.place + 1) j et eu x y) (sym f.col_is)
-    (difference-by_columns d v ls rs f.place col et eu x y (omega (arith, w, tall)) l same f.before f.here)))
+    let w = f.within in (
+      h.0,
+      subst (λ i. IsFirstDifferentEntry (side_matrix laurent_variables d v ls) (side_matrix laurent_variables d v rs) i c et eu x y) (sym f.row_is)
+          (subst (λ j. IsFirstDifferentEntry (side_matrix laurent_variables d v ls) (side_matrix laurent_variables d v rs) (f.place + 1) j et eu x y) (sym f.col_is)
+          (difference-by_columns d v ls rs f.place col et eu x y (omega (arith, w, tall)) l same f.before f.here)),
+    )

@@ -1,11 +1,11 @@
 -- The degrees of the entries of a side are at most the sum of those of its factors.
 -- Own: the degrees, which bound the exponents that are met where a side is multiplied out.
-use Rattle.std.proofs.Common.{◌≡◌, ℕ, zero, suc, ◌+◌, ◌*◌, ◌<◌, ◌≤◌, ℤ, pos, List, [], ◌∷◌, ◌++◌, cond, eqb, true, false, Bool, refl, sym, ap, ap₂, ◌∙◌, subst, arith, inl, inr}
+use Rattle.std.proofs.Common.{◌≡◌, ℕ, zero, suc, ◌+◌, ◌*◌, ◌<◌, ◌≤◌, ℤ, pos, List, [], ◌∷◌, ◌++◌, cond, eqb, true, false, Bool, refl, sym, ◌∙◌, subst, arith}
 use Rattle.std.specs.Prelude.{max}
 use Rattle.lie_ring.specs.Rings.{RingOn, IsElem, IsRing, sum_below}
 use Rattle.lie_ring.specs.Powers.{power}
 use Rattle.lie_ring.specs.SumLemmas.{sum-elem}
-use Rattle.lie_ring.specs.Matrices.{Matrix, table, entry, identity, product, product_entry, product_term, AllElem}
+use Rattle.lie_ring.specs.Matrices.{Matrix, entry, product, product_entry, product_term, AllElem}
 use Rattle.lie_ring.specs.MatrixLemmas.{entry-table}
 use Rattle.lie_datum.specs.RootList.{RootDatum}
 use Rattle.lie_const.specs.Modules.{Module, dimension, top, divided_power, root_element, root_element_entry}
@@ -68,9 +68,9 @@ module _ {A : Type 0} (R : RingOn A) (ring : IsRing R) where
       let g = λ (k : ℕ). R.mul (power R f (suc k)) (R.of_int (entry (pos 0) (divided_power v r (suc k)) i j)) in
       let pg = λ (k : ℕ) (l : k < top v r). step-elem R ring v r f i j k p in
       let terms = sum-degree (top v r) g D pg (λ k l. (let m = ring.sized.degree_mul (power R f (suc k)) (R.of_int (entry (pos 0) (divided_power v r (suc k)) i j)) (power-elem R ring f (suc k) p) (ring.integers.int_elem _) in
-          let o = ring.sized.degree_int (entry (pos 0) (divided_power v r (suc k)) i j) in
-          let w = power-degree f (suc k) (top v r) p l in
-          omega (arith, m, o, w))) in
+      let o = ring.sized.degree_int (entry (pos 0) (divided_power v r (suc k)) i j) in
+      let w = power-degree f (suc k) (top v r) p l in
+      omega (arith, m, o, w))) in
       let both = ring.sized.degree_add (cond (eqb i j) R.one R.zero) (sum_below R (top v r) g) (cond-elem R ring (eqb i j) R.one R.zero ring.laws.one_elem ring.laws.zero_elem) (sum-elem R ring.laws (top v r) g pg) in
       let m = max_within (R.degree (cond (eqb i j) R.one R.zero)) (R.degree (sum_below R (top v r) g)) D (unit-degree (eqb i j) D) terms in
       subst (λ x. R.degree x ≤ D) (sym (entry-table R.zero n n (root_element_entry R v r f) i j c e)) (omega (arith, both, m))

@@ -1,9 +1,7 @@
 -- What is found on the basis vectors, one after the other, is what the audit names.
 -- Own: the order of the entries: by column, then row.
-use Rattle.std.proofs.Common.{◌≡◌, ℕ, zero, suc, ◌+◌, ◌-◌, ◌<◌, ◌≤◌, ◌⊎◌, ℤ, List, [], ◌∷◌, refl, sym, ap, ap₂, ◌∙◌, subst, arith, inl, inr}
-use Rattle.lie_ring.specs.Rings.{RingOn, IsElem, IsRing}
-use Rattle.lie_ring.specs.Matrices.{Matrix, entry, product, IsShaped}
-use Rattle.lie_ring.specs.MatrixLemmas.{table-shaped}
+use Rattle.std.proofs.Common.{◌≡◌, ℕ, ◌+◌, ◌-◌, ◌<◌, ℤ, List, [], ◌∷◌, refl, sym, ap, ◌∙◌, subst, arith, inl, inr}
+use Rattle.lie_ring.specs.Matrices.{entry}
 use Rattle.lie_datum.specs.RootList.{RootDatum}
 use Rattle.lie_const.specs.Modules.{Module, dimension}
 use Rattle.lie_poly.specs.Polynomials.{Polynomial, laurent, coefficient}
@@ -11,7 +9,7 @@ use Rattle.lie_poly.specs.LaurentLaws.{laurent_ring}
 use Rattle.lie_poly.specs.Differences.{IsFirstDifference}
 use Rattle.lie_identities.specs.AuditRelations.{Factor, RootElement, CorootElement, side_matrix}
 use Rattle.lie_identities.specs.Audit.{laurent_variables, IsEntryBefore, IsFirstDifferentEntry}
-use Rattle.lie_identities.specs.Columns.{unit_column, side_column}
+use Rattle.lie_identities.specs.Columns.{side_column}
 use Rattle.lie_identities.proofs.FactorLemmas.{polynomials, AreFactorsOver, side-height, side-elem}
 use Rattle.lie_identities.proofs.SideLemmas.{side-column, product-unit, same-columns, side-shaped, side-wide}
 

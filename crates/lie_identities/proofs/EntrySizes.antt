@@ -1,6 +1,6 @@
 -- The sizes of the entries of a side are at most the entries of the product of the sizes of its factors.
 -- Own: the sizes, which bound what is met where a side is multiplied out.
-use Rattle.std.proofs.Common.{◌≡◌, ℕ, zero, suc, ◌+◌, ◌*◌, ◌<◌, ◌≤◌, ℤ, pos, negsuc, ◌+ℤ◌, ◌*ℤ◌, nat_abs, List, [], ◌∷◌, cond, eqb, true, false, Bool, refl, sym, ap, ap₂, ◌∙◌, subst, arith, inl, inr}
+use Rattle.std.proofs.Common.{◌≡◌, ℕ, zero, suc, ◌*◌, ◌<◌, ◌≤◌, ℤ, pos, negsuc, ◌*ℤ◌, nat_abs, List, [], ◌∷◌, cond, eqb, true, false, Bool, refl, sym, ◌∙◌, subst, arith}
 use Rattle.std.specs.Prelude.{◌≤ℤ◌}
 use Rattle.std.proofs.lemmas.Int.{ints}
 use Rattle.lie_ring.specs.Rings.{RingOn, IsElem, IsRing, sum_below}
@@ -8,13 +8,13 @@ use Rattle.lie_ring.specs.Integers.{integers}
 use Rattle.lie_ring.specs.IntegerLaws.{integers_commutative}
 use Rattle.lie_ring.specs.Powers.{power}
 use Rattle.lie_ring.specs.SumLemmas.{sum-elem}
-use Rattle.lie_ring.specs.Matrices.{Matrix, table, entry, identity, product, product_entry, product_term, AllElem}
+use Rattle.lie_ring.specs.Matrices.{Matrix, entry, identity, product, product_entry, product_term, AllElem}
 use Rattle.lie_ring.specs.MatrixLemmas.{entry-table}
 use Rattle.lie_datum.specs.RootList.{RootDatum}
 use Rattle.lie_const.specs.Modules.{Module, dimension, top, divided_power, root_element, root_element_entry}
 use Rattle.lie_identities.specs.AuditRelations.{Variables, Factor, RootElement, CorootElement, coroot_power, factor_matrix, side_matrix, size_entry, size_element, factor_size, side_size}
 use Rattle.lie_identities.proofs.FactorLemmas.{AreVariables, AreFactorsOver, IsFactorOver, power-elem, cond-elem, step-elem, factor-elem, factor-height, factor-width, side-height, side-elem}
-use Rattle.lie_identities.proofs.SizeLemmas.{sum_monotone, sum_nonnegative, term_in_sum, times_nonnegative, times_monotone, IsNonnegative}
+use Rattle.lie_identities.proofs.SizeLemmas.{times_monotone}
 
 -- the sizes of the entries of M are at most the entries of S
 abbrev pub IsWithinSizes : {A : Type 0} → RingOn A → Matrix A → Matrix ℤ → Type 0
@@ -54,10 +54,10 @@ module _ {A : Type 0} (R : RingOn A) (ring : IsRing R) where
       → IsWithinSizes R M S → IsWithinSizes R N T → IsWithinSizes R (product R M N) (product integers S T)
   product-size M N S T shape sh sw tw p q a b i j c e =
       let terms = sum-size M.width (product_term R M N i j) (product_term integers S T i j)
-          (λ k l. ring.laws.mul_elem _ _ (p i k c l) (q k j (omega (arith, shape, l)) e))
-          (λ k l. (let m = ring.sized.size_mul (entry R.zero M i k) (entry R.zero N k j) (p i k c l) (q k j (omega (arith, shape, l)) e) in
-          let u = under_product _ _ (entry (pos 0) S i k) (entry (pos 0) T k j) (a i k c l) (b k j (omega (arith, shape, l)) e) in
-          omega (arith, ints, m, u))) in
+      (λ k l. ring.laws.mul_elem _ _ (p i k c l) (q k j (omega (arith, shape, l)) e))
+      (λ k l. (let m = ring.sized.size_mul (entry R.zero M i k) (entry R.zero N k j) (p i k c l) (q k j (omega (arith, shape, l)) e) in
+      let u = under_product _ _ (entry (pos 0) S i k) (entry (pos 0) T k j) (a i k c l) (b k j (omega (arith, shape, l)) e) in
+      omega (arith, ints, m, u))) in
       let left = entry-table R.zero M.height N.width (product_entry R M N) i j c e in
       let right = entry-table (pos 0) S.height T.width (product_entry integers S T) i j (omega (arith, sh, c)) (omega (arith, tw, e)) in
       subst (λ x. pos (R.size x) ≤ℤ entry (pos 0) (product integers S T) i j) (sym left)
@@ -83,10 +83,10 @@ module _ {A : Type 0} (R : RingOn A) (ring : IsRing R) where
       let w = λ (k : ℕ). entry (pos 0) (divided_power v r (suc k)) i j in
       let g = λ (k : ℕ). R.mul (power R f (suc k)) (R.of_int (w k)) in
       let terms = sum-size (top v r) g (λ k. power integers (pos (R.size f)) (suc k) *ℤ pos (nat_abs (w k))) (λ k _. step-elem R ring v r f i j k p)
-          (λ k _. (let m = ring.sized.size_mul (power R f (suc k)) (R.of_int (w k)) (power-elem R ring f (suc k) p) (ring.integers.int_elem (w k)) in
-          let o = ring.sized.size_int (w k) in
-          let u = under_product (R.size (power R f (suc k))) (R.size (R.of_int (w k))) (power integers (pos (R.size f)) (suc k)) (pos (nat_abs (w k))) (power-size f (suc k) p) (omega (arith, ints, o)) in
-          omega (arith, ints, m, u))) in
+      (λ k _. (let m = ring.sized.size_mul (power R f (suc k)) (R.of_int (w k)) (power-elem R ring f (suc k) p) (ring.integers.int_elem (w k)) in
+      let o = ring.sized.size_int (w k) in
+      let u = under_product (R.size (power R f (suc k))) (R.size (R.of_int (w k))) (power integers (pos (R.size f)) (suc k)) (pos (nat_abs (w k))) (power-size f (suc k) p) (omega (arith, ints, o)) in
+      omega (arith, ints, m, u))) in
       let one = unit-size (eqb i j) in
       let both = ring.sized.size_add (cond (eqb i j) R.one R.zero) (sum_below R (top v r) g) (cond-elem R ring (eqb i j) R.one R.zero ring.laws.one_elem ring.laws.zero_elem) (sum-elem R ring.laws (top v r) g (λ k _. step-elem R ring v r f i j k p)) in
       subst (λ x. pos (R.size x) ≤ℤ entry (pos 0) (size_element v r (R.size f)) i j) (sym (entry-table R.zero n n (root_element_entry R v r f) i j c e))

@@ -1,20 +1,19 @@
 -- The factors of the sides of a relation have elements as entries, and their matrices are square.
 -- Own: t, its powers and u are asked to be elements.
-use Rattle.std.proofs.Common.{◌≡◌, ℕ, zero, suc, ◌<◌, ℤ, pos, neg_ℤ, List, [], ◌∷◌, ◌++◌, map, cond, eqb, true, false, Bool, refl, sym, ap, ap₂, ◌∙◌, subst, arith}
-use Rattle.lie_ring.specs.Rings.{RingOn, IsElem, IsRing, sum_below}
+use Rattle.std.proofs.Common.{◌≡◌, ℕ, zero, suc, ℤ, pos, List, [], ◌∷◌, map, cond, eqb, true, false, Bool, refl, sym, ◌∙◌}
+use Rattle.lie_ring.specs.Rings.{RingOn, IsElem, IsRing}
 use Rattle.lie_ring.specs.Powers.{power}
 use Rattle.lie_ring.specs.SumLemmas.{sum-elem}
-use Rattle.lie_ring.specs.Matrices.{Matrix, table, entry, identity, product, AllElem}
+use Rattle.lie_ring.specs.Matrices.{entry, AllElem}
 use Rattle.lie_ring.specs.MatrixElements.{table-elem, identity-elem, product-elem}
 use Rattle.lie_datum.specs.RootList.{RootDatum}
 use Rattle.lie_const.specs.declared.term.Term.{Term}
 use Rattle.lie_const.specs.ConstantTables.{ConstantTable, terms_of}
 use Rattle.lie_const.specs.Modules.{Module, dimension, top, divided_power, root_element, root_element_entry}
 use Rattle.lie_const.specs.Signs.{Signs}
-use Rattle.lie_poly.specs.Polynomials.{Polynomial, laurent}
 use Rattle.lie_identities.specs.declared.relations.Rel.{Rel}
 use Rattle.lie_identities.specs.declared.relations.Rel.TheVariants.{S1, S2, S6, S7}
-use Rattle.lie_identities.specs.AuditRelations.{Variables, Factor, RootElement, CorootElement, weyl_factors, inverse_factors, term_value, left_side, right_side, coroot_power, factor_matrix, side_matrix}
+use Rattle.lie_identities.specs.AuditRelations.{Variables, Factor, RootElement, CorootElement, term_value, left_side, right_side, factor_matrix, side_matrix}
 use Rattle.lie_identities.specs.Audit.{laurent_variables}
 
 -- t and u are elements

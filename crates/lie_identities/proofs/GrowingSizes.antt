@@ -1,6 +1,6 @@
 -- The products of sizes grow with each factor, so the sizes of a side bound those of its last factors.
 -- Own: the sizes.
-use Rattle.std.proofs.Common.{◌≡◌, ℕ, zero, suc, ◌+◌, ◌*◌, ◌<◌, ◌≤◌, ◌^◌, ℤ, pos, negsuc, ◌+ℤ◌, ◌*ℤ◌, nat_abs, List, [], ◌∷◌, ◌++◌, cond, eqb, true, false, Bool, refl, sym, ap, ap₂, ◌∙◌, subst, arith, inl, inr}
+use Rattle.std.proofs.Common.{◌≡◌, ℕ, zero, suc, ◌*◌, ◌<◌, ◌^◌, ℤ, pos, ◌*ℤ◌, nat_abs, List, [], ◌∷◌, ◌++◌, cond, eqb, true, false, Bool, refl, sym, ap, ◌∙◌, subst, arith, inl, inr}
 use Rattle.std.specs.Prelude.{◌≤ℤ◌}
 use Rattle.std.proofs.lemmas.Int.{ints}
 use Rattle.std.proofs.lemmas.Bool.{eq-eqb, ne_eqb, cases_lt}
@@ -9,12 +9,12 @@ use Rattle.lie_ring.specs.Rings.{RingOn, sum_below}
 use Rattle.lie_ring.specs.Integers.{integers}
 use Rattle.lie_ring.specs.IntegerLaws.{integers_commutative}
 use Rattle.lie_ring.specs.Powers.{power}
-use Rattle.lie_ring.specs.Matrices.{Matrix, table, entry, identity, product, product_entry, product_term}
+use Rattle.lie_ring.specs.Matrices.{entry, identity, product_entry, product_term}
 use Rattle.lie_ring.specs.MatrixLemmas.{entry-table}
 use Rattle.lie_const.specs.Modules.{Module, dimension, top, divided_power}
-use Rattle.lie_identities.specs.AuditRelations.{Factor, RootElement, CorootElement, size_entry, size_element, factor_size, side_size}
+use Rattle.lie_identities.specs.AuditRelations.{Factor, RootElement, CorootElement, size_entry, factor_size, side_size}
 use Rattle.lie_mat.specs.Wide.{IsHugeMatrix}
-use Rattle.lie_identities.proofs.SizeLemmas.{sum_monotone, sum_nonnegative, term_in_sum, times_nonnegative, times_monotone, IsNonnegative, HasColumnBound, column_bound-product}
+use Rattle.lie_identities.proofs.SizeLemmas.{sum_nonnegative, term_in_sum, times_nonnegative, times_monotone, IsNonnegative, HasColumnBound, column_bound-product}
 
 -- a power of a natural number is not negative
 pub power_nonnegative : (n k : ℕ) → pos 0 ≤ℤ power integers (pos n) k

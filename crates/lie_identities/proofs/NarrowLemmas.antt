@@ -1,25 +1,22 @@
 -- Where a side is not large, no product that its walk makes is too wide.
 -- Own: the sizes.
-use Rattle.std.proofs.Common.{◌≡◌, ℕ, zero, suc, ◌+◌, ◌*◌, ◌<◌, ◌≤◌, ◌^◌, ℤ, pos, ◌+ℤ◌, ◌*ℤ◌, nat_abs, List, [], ◌∷◌, ◌++◌, length, get_or, cond, eqb, true, false, Bool, refl, sym, ap, ap₂, ◌∙◌, subst, arith, inl, inr}
+use Rattle.std.proofs.Common.{◌≡◌, ℕ, zero, suc, ◌+◌, ◌*◌, ◌<◌, ◌≤◌, ◌^◌, ℤ, pos, ◌*ℤ◌, nat_abs, List, [], ◌∷◌, ◌++◌, length, get_or, cond, eqb, true, false, Bool, refl, sym, ap, subst, arith}
 use Rattle.std.specs.Prelude.{◌≤ℤ◌}
 use Rattle.std.specs.List.{AllByRecursion, flat_map, range_with_len}
 use Rattle.std.specs.Ordering.{int_eq}
 use Rattle.std.proofs.lemmas.Int.{ints}
-use Rattle.std.proofs.lemmas.List.{append-nil}
-use Rattle.std.proofs.lemmas.Bool.{cases_lt, eq-eqb}
 use Rattle.lie_ring.specs.Rings.{RingOn, IsElem, IsRing, sum_below}
 use Rattle.lie_ring.specs.Integers.{integers}
 use Rattle.lie_ring.specs.Powers.{power}
-use Rattle.lie_ring.specs.Matrices.{Matrix, entry, table, product, product_entry, product_term}
+use Rattle.lie_ring.specs.Matrices.{entry, product_entry, product_term}
 use Rattle.lie_ring.specs.MatrixLemmas.{entry-table}
 use Rattle.lie_const.specs.Modules.{Module, dimension, top, divided_power}
-use Rattle.lie_identities.specs.AuditRelations.{Factor, RootElement, size_entry, size_element, factor_size, side_size}
+use Rattle.lie_identities.specs.AuditRelations.{Factor, RootElement, size_entry, size_element, side_size}
 use Rattle.lie_mat.specs.Wide.{IsHugeMatrix}
 use Rattle.lie_identities.specs.declared.steps.Step.{Step}
-use Rattle.lie_identities.proofs.FactorLemmas.{power-elem}
-use Rattle.lie_identities.proofs.SizeLemmas.{term_in_sum, times_nonnegative, times_monotone}
+use Rattle.lie_identities.proofs.SizeLemmas.{term_in_sum, times_nonnegative}
 use Rattle.lie_identities.proofs.EntrySizes.{under_product, power-size}
-use Rattle.lie_identities.proofs.GrowingSizes.{factor_nonnegative, side_nonnegative, sides-grow, last_small, factor_tall, factor_broad, side_tall, side_broad, size_terms, power_nonnegative, unit_nonnegative}
+use Rattle.lie_identities.proofs.GrowingSizes.{factor_nonnegative, side_nonnegative, last_small, side_tall, side_broad, power_nonnegative, unit_nonnegative}
 use Rattle.lie_identities.specs.StepLists.{step, step_at, steps_in, steps_of, IsStepOf}
 
 -- ---- the members of the list of steps

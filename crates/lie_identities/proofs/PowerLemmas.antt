@@ -1,20 +1,19 @@
 -- The powers of the polynomial of a factor, where its side is not large.
 -- Own: the bounds.
-use Rattle.std.proofs.Common.{◌≡◌, ◌≢◌, ℕ, zero, suc, ◌+◌, ◌*◌, ◌-◌, ◌<◌, ◌≤◌, ◌^◌, ℤ, pos, negsuc, ◌+ℤ◌, ◌*ℤ◌, nat_abs, List, [], ◌∷◌, ◌++◌, map, length, get_or, cond, eqb, true, false, Bool, refl, sym, ap, ap₂, ◌∙◌, subst, arith, inl, inr, ◌⊎◌}
+use Rattle.std.proofs.Common.{◌≡◌, ◌≢◌, ℕ, zero, suc, ◌+◌, ◌*◌, ◌-◌, ◌<◌, ◌≤◌, ◌^◌, ℤ, pos, negsuc, ◌*ℤ◌, nat_abs, List, [], ◌∷◌, ◌++◌, length, get_or, true, false, Bool, refl, sym, ap, ◌∙◌, subst, arith, inl, inr, ◌⊎◌}
 use Rattle.std.specs.Prelude.{◌≤ℤ◌, ◌<ℤ◌}
-use Rattle.std.specs.List.{All}
 use Rattle.std.specs.Ordering.{int_eq}
 use Rattle.std.proofs.lemmas.Int.{ints}
-use Rattle.std.proofs.lemmas.Bool.{cases_lt, cases_eq}
+use Rattle.std.proofs.lemmas.Bool.{cases_lt}
 use Rattle.std.proofs.lemmas.Bool.Decides.{Decides-int_eq}
 use Rattle.std.proofs.lemmas.List.{get_or_append_left, get_or-append-add}
-use Rattle.std.proofs.Math.Nat.{mul-le-mul_left, mul-le-mul_right}
+use Rattle.std.proofs.Math.Nat.{mul-le-mul_right}
 use Rattle.lie_ring.specs.Rings.{Fits}
 use Rattle.lie_ring.specs.Integers.{integers}
 use Rattle.lie_ring.specs.IntegerLaws.{integers_commutative}
 use Rattle.lie_ring.specs.Powers.{power}
 use Rattle.lie_ring.specs.RingLemmas.{one_mul}
-use Rattle.lie_ring.specs.Matrices.{Matrix, table, entry, zero_matrix}
+use Rattle.lie_ring.specs.Matrices.{Matrix, entry}
 use Rattle.lie_ring.specs.MatrixLemmas.{table-same}
 use Rattle.lie_datum.specs.RootList.{RootDatum, IsNumber}
 use Rattle.lie_const.specs.Modules.{Module, IsModule, dimension, top, divided_power}
@@ -23,10 +22,9 @@ use Rattle.lie_poly.specs.Polynomials.{Polynomial, laurent, size, degree}
 use Rattle.lie_poly.specs.LaurentLaws.{laurent_ring}
 use Rattle.lie_identities.specs.AuditRelations.{Factor, RootElement, CorootElement, size_entry, side_size}
 use Rattle.lie_identities.specs.StepLists.{IsStepOf, step}
-use Rattle.lie_identities.specs.Columns.{side_degree, IsFactorOf, IsNarrowSide}
-use Rattle.lie_identities.specs.Moves.{base_of, ArePowersOf, HasPowers}
-use Rattle.lie_identities.specs.Actions.{HasNarrowPowers, IsNarrowFactor}
-use Rattle.lie_identities.proofs.SizeLemmas.{times_monotone}
+use Rattle.lie_identities.specs.Columns.{IsFactorOf, IsNarrowSide}
+use Rattle.lie_identities.specs.Moves.{ArePowersOf}
+use Rattle.lie_identities.specs.Actions.{IsNarrowFactor}
 use Rattle.lie_identities.proofs.EntrySizes.{power-size, under_product}
 use Rattle.lie_identities.proofs.GrowingSizes.{last_small, power_nonnegative, size_entry_nonnegative}
 use Rattle.lie_identities.proofs.NarrowLemmas.{under_size, one_term}
@@ -125,17 +123,20 @@ module _ (d : RootDatum) (v : Module) (shape : IsModule d v) (r : ℤ) (number :
 -- the powers of each factor of a narrow side can be made
 pub narrow-factor : (d : RootDatum) (v : Module) → IsModule d v → (ys : List (Factor Polynomial)) (x : Factor Polynomial) (xs : List (Factor Polynomial)) → IsFactorOf d x → IsNarrowSide d v (ys ++ x ∷ xs) → IsNarrowFactor d v x
 narrow-factor d v shape ys (CorootElement i) xs of side = tt
-narrow-factor d v shape ys (RootElement r f) xs of side = (of.0, record {
-  fits = of.1;
-  sizes = λ k first last. sizes-small d v shape r of.0 f xs (last_narrow v ys (RootElement r f ∷ xs) side.small) k first last;
-  degrees = λ k first last.
-      let h = side.shallow in
-      let g = degree-last v ys (RootElement r f ∷ xs) in
-      let w = power-degree laurent laurent_ring f k k refl (omega arith) in
-      let m = mul-le-mul_right (degree f) (let l : suc k ≤ top v r = omega (arith, last) in l) in
-      let e : suc k * degree f ≡ k * degree f + degree f = omega arith in
-      omega (arith, h, g, w, m, e);
-})
+narrow-factor d v shape ys (RootElement r f) xs of side = (
+  of.0,
+  record {
+    fits = of.1;
+    sizes = λ k first last. sizes-small d v shape r of.0 f xs (last_narrow v ys (RootElement r f ∷ xs) side.small) k first last;
+    degrees = λ k first last.
+        let h = side.shallow in
+        let g = degree-last v ys (RootElement r f ∷ xs) in
+        let w = power-degree laurent laurent_ring f k k refl (omega arith) in
+        let m = mul-le-mul_right (degree f) (let l : suc k ≤ top v r = omega (arith, last) in l) in
+        let e : suc k * degree f ≡ k * degree f + degree f = omega arith in
+        omega (arith, h, g, w, m, e);
+  },
+)
 
 -- ---- the list of the powers
 -- one more member

@@ -1,19 +1,18 @@
 -- Where a side is not large, each of its factors can be multiplied with the column of those behind it.
 -- Own: the bounds.
-use Rattle.std.proofs.Common.{◌≡◌, ◌≢◌, ℕ, zero, suc, ◌+◌, ◌*◌, ◌-◌, ◌<◌, ◌≤◌, ◌^◌, ℤ, pos, negsuc, ◌+ℤ◌, ◌*ℤ◌, nat_abs, List, [], ◌∷◌, ◌++◌, map, length, get_or, cond, eqb, true, false, Bool, refl, sym, ap, ap₂, ◌∙◌, subst, arith, inl, inr, append_assoc}
+use Rattle.std.proofs.Common.{◌≡◌, ℕ, suc, ◌*◌, ◌-◌, ◌<◌, ◌≤◌, ◌^◌, ℤ, pos, ◌+ℤ◌, ◌*ℤ◌, nat_abs, List, [], ◌∷◌, ◌++◌, get_or, cond, eqb, refl, sym, ap, ◌∙◌, subst, arith}
 use Rattle.std.specs.Prelude.{◌≤ℤ◌, ◌<ℤ◌}
-use Rattle.std.specs.List.{All}
 use Rattle.std.proofs.lemmas.Int.{ints}
-use Rattle.std.proofs.lemmas.Bool.{cases_lt, eq-eqb, ne_eqb}
+use Rattle.std.proofs.lemmas.Bool.{eq-eqb, ne_eqb}
 use Rattle.std.proofs.Math.Nat.{mul-le-mul_left, mul-le-mul_right}
 use Rattle.std.proofs.lemmas.List.{append-nil}
-use Rattle.lie_ring.specs.Rings.{Fits, sum_below}
+use Rattle.lie_ring.specs.Rings.{sum_below}
 use Rattle.lie_ring.specs.Integers.{integers}
 use Rattle.lie_ring.specs.IntegerLaws.{integers_commutative}
 use Rattle.lie_ring.specs.Powers.{power}
 use Rattle.lie_ring.specs.RingLemmas.{add_mul, one_mul, zero_mul}
 use Rattle.lie_ring.specs.SumLemmas.{sum-same, sum-add, sum-only}
-use Rattle.lie_ring.specs.Matrices.{Matrix, table, entry, identity, product, product_entry, IsShaped, AllFit}
+use Rattle.lie_ring.specs.Matrices.{Matrix, entry, identity, product_entry, IsShaped}
 use Rattle.lie_ring.specs.MatrixLemmas.{entry-table, table-shaped}
 use Rattle.lie_datum.specs.Vectors.{pairing}
 use Rattle.lie_datum.specs.RootDatum.{simple_coroot}
@@ -22,17 +21,17 @@ use Rattle.lie_const.specs.Modules.{Module, dimension, top, divided_power}
 use Rattle.lie_mat.specs.Wide.{IsHugeMatrix}
 use Rattle.lie_poly.specs.Polynomials.{Polynomial, laurent, size, degree, constant, monomial}
 use Rattle.lie_poly.specs.LaurentLaws.{laurent_ring}
-use Rattle.lie_identities.specs.AuditRelations.{Factor, RootElement, CorootElement, coroot_power, factor_matrix, side_matrix, size_entry, size_element, side_size}
+use Rattle.lie_identities.specs.AuditRelations.{Factor, RootElement, CorootElement, coroot_power, factor_matrix, size_entry, size_element, side_size}
 use Rattle.lie_identities.specs.Audit.{laurent_variables}
 use Rattle.lie_identities.specs.declared.steps.Step.{Step}
 use Rattle.lie_identities.specs.StepLists.{steps_of, IsStepOf, HasSmallEntries}
-use Rattle.lie_identities.specs.Columns.{unit_column, side_column, moved_size, part_size, IsColumn, factor_degree, side_degree, IsNarrowSide, HasLightPairings}
-use Rattle.lie_identities.specs.Moves.{IsNarrowMove, IsNarrowStep, AreNarrowSteps, IsReadyForRoot, IsReadyForCoroot, IsReadyFor}
+use Rattle.lie_identities.specs.Columns.{side_column, moved_size, part_size, IsColumn, side_degree, IsNarrowSide, HasLightPairings}
+use Rattle.lie_identities.specs.Moves.{IsNarrowMove, IsReadyForRoot, IsReadyForCoroot, IsReadyFor}
 use Rattle.lie_identities.proofs.FactorLemmas.{polynomials, factor-height, side-height}
 use Rattle.lie_identities.proofs.SideLemmas.{side-wide}
-use Rattle.lie_identities.proofs.SizeLemmas.{sum_monotone, times_nonnegative, times_monotone}
-use Rattle.lie_identities.proofs.EntrySizes.{side-size, power-size, under_product}
-use Rattle.lie_identities.proofs.GrowingSizes.{factor_nonnegative, side_nonnegative, sides-grow, last_small, side_tall, side_broad, size_terms}
+use Rattle.lie_identities.proofs.SizeLemmas.{sum_monotone, times_monotone}
+use Rattle.lie_identities.proofs.EntrySizes.{side-size}
+use Rattle.lie_identities.proofs.GrowingSizes.{sides-grow, last_small, side_tall, side_broad, size_terms}
 use Rattle.lie_identities.proofs.NarrowLemmas.{are_steps, at_place, step-narrow}
 use Rattle.lie_identities.proofs.DegreeLemmas.{side-degree, power-degree, degree-last}
 use Rattle.lie_identities.proofs.DifferenceLemmas.{column-entry, all_over}
@@ -187,7 +186,7 @@ module _ (d : RootDatum) (v : Module) (light : HasLightPairings d v) (entries : 
     room a l =
         let own = V-size a l in
         let others = sum_monotone (dimension v) (part_size laurent v r f V a) (λ k. moved_size v r (size f) a k *ℤ entry (pos 0) S k b)
-            (λ k c. times_right (moved_size v r (size f) a k) (pos (size (entry laurent.zero V k 0))) (entry (pos 0) S k b) (V-size k c) (size_terms v r (size f) a k)) in
+        (λ k c. times_right (moved_size v r (size f) a k) (pos (size (entry laurent.zero V k 0))) (entry (pos 0) S k b) (V-size k c) (size_terms v r (size f) a k)) in
         let whole = split a l in
         let most = bound a b l col in
         omega (arith, ints, own, others, whole, most)

@@ -1,25 +1,23 @@
 -- The list of what the entries of a column add by X_r(f) - 1, row after row.
-use Rattle.std.proofs.Common.{◌≡◌, ℕ, zero, suc, ◌+◌, ◌*◌, ◌<◌, ◌≤◌, ◌^◌, ℤ, pos, nat_abs, List, [], ◌∷◌, ◌++◌, map, length, get_or, refl, sym, ap, ◌∙◌, subst, arith}
-use Rattle.std.specs.Prelude.{◌≤ℤ◌}
-use Rattle.std.specs.List.{All, AllByRecursion}
+use Rattle.std.proofs.Common.{◌≡◌, ℕ, zero, suc, ◌+◌, ◌<◌, ◌≤◌, ℤ, List, [], ◌∷◌, ◌++◌, map, refl, sym, ◌∙◌, subst, arith}
+use Rattle.std.specs.List.{AllByRecursion}
 use Rattle.std.proofs.lemmas.Int.{ints}
-use Rattle.lie_ring.specs.Rings.{Fits, sum_below}
-use Rattle.lie_ring.specs.Integers.{integers}
+use Rattle.lie_ring.specs.Rings.{Fits}
 use Rattle.lie_ring.specs.Powers.{power}
 use Rattle.lie_ring.specs.Matrices.{Matrix, entry, product, AllElem}
 use Rattle.lie_ring.specs.MatrixLemmas.{matrix-same, table-shaped}
 use Rattle.lie_mat.specs.Kept.{AreZeros, IsNextKept}
 use Rattle.lie_const.specs.Modules.{Module, dimension, top, root_element}
-use Rattle.lie_poly.specs.Polynomials.{Polynomial, laurent, size, constant} 
+use Rattle.lie_poly.specs.Polynomials.{Polynomial, laurent, constant}
 use Rattle.lie_poly.specs.LaurentLaws.{laurent_ring}
 use Rattle.lie_identities.specs.declared.steps.Step.{Step}
 use Rattle.lie_identities.specs.StepLists.{steps_of, IsStepOf}
 use Rattle.lie_identities.specs.Columns.{part, part_size, IsColumn}
-use Rattle.lie_identities.specs.Additions.{added_in, size_in, AreAdditions}
-use Rattle.lie_identities.specs.Moves.{addition, moved, IsNarrowStep, AreNarrowSteps, IsReadyForRoot, AddsRows}
+use Rattle.lie_identities.specs.Additions.{added_in, AreAdditions}
+use Rattle.lie_identities.specs.Moves.{addition, IsNarrowStep, AreNarrowSteps, AddsRows}
 use Rattle.lie_identities.proofs.StepLemmas.{AreElems}
 use Rattle.lie_identities.proofs.NarrowLemmas.{are_steps}
-use Rattle.lie_identities.proofs.WalkLemmas.{walk-next, walk-end, size-next, sum-skip, sum_longer, part_elem, part_zero, part_nonnegative}
+use Rattle.lie_identities.proofs.WalkLemmas.{walk-next, walk-end, size-next, sum-skip, sum_longer, part_zero, part_nonnegative}
 
 -- all polynomials are elements
 elems : (xs : List (ℕ × Polynomial)) → AreElems laurent laurent_ring xs

@@ -1,20 +1,19 @@
 -- A side of a relation on one basis vector, as a column that the factors act on, the last first.
 -- Own: the columns; that matrices with equal columns are equal is in any text on algebra.
-use Rattle.std.proofs.Common.{◌≡◌, ◌≢◌, ℕ, zero, suc, ◌<◌, ℤ, pos, List, [], ◌∷◌, cond, eqb, true, false, Bool, refl, sym, ap, ap₂, ◌∙◌, subst, arith}
+use Rattle.std.proofs.Common.{◌≡◌, ℕ, ◌<◌, ℤ, List, [], ◌∷◌, cond, eqb, refl, sym, ap, ◌∙◌, arith}
 use Rattle.std.proofs.lemmas.Bool.{eq-eqb, ne_eqb}
 use Rattle.lie_ring.specs.Rings.{RingOn, IsElem, IsRing, sum_below}
-use Rattle.lie_ring.specs.Powers.{power}
-use Rattle.lie_ring.specs.RingLemmas.{zero_add, zero_mul, mul_zero, one_mul, add_mul}
+use Rattle.lie_ring.specs.RingLemmas.{zero_mul, mul_zero, one_mul, add_mul}
 use Rattle.lie_ring.specs.SumLemmas.{sum-elem, sum-same, sum-add, sum-only}
-use Rattle.lie_ring.specs.Matrices.{Matrix, table, entry, identity, product, product_entry, product_term, AllElem, IsShaped}
-use Rattle.lie_ring.specs.MatrixLemmas.{entry-table, table-same, table-shaped, matrix-same}
-use Rattle.lie_ring.specs.MatrixElements.{table-elem, product-elem}
+use Rattle.lie_ring.specs.Matrices.{Matrix, entry, product, product_entry, product_term, AllElem, IsShaped}
+use Rattle.lie_ring.specs.MatrixLemmas.{entry-table, table-shaped, matrix-same}
+use Rattle.lie_ring.specs.MatrixElements.{table-elem}
 use Rattle.lie_ring.specs.MatrixLaws.{product-assoc, one-product}
 use Rattle.lie_datum.specs.RootList.{RootDatum}
-use Rattle.lie_const.specs.Modules.{Module, dimension, top, divided_power, root_element, root_element_entry}
-use Rattle.lie_identities.specs.AuditRelations.{Variables, Factor, RootElement, CorootElement, factor_matrix, side_matrix}
+use Rattle.lie_const.specs.Modules.{Module, dimension, top, root_element, root_element_entry}
+use Rattle.lie_identities.specs.AuditRelations.{Variables, Factor, factor_matrix, side_matrix}
 use Rattle.lie_identities.specs.Columns.{unit_column, side_column, moved_entry}
-use Rattle.lie_identities.proofs.FactorLemmas.{AreVariables, AreFactorsOver, IsFactorOver, power-elem, cond-elem, step-elem, root_element-elem, factor-elem, factor-height, factor-width, side-height, side-elem}
+use Rattle.lie_identities.proofs.FactorLemmas.{AreVariables, AreFactorsOver, cond-elem, step-elem, factor-elem, factor-width, side-height, side-elem}
 
 module _ {A : Type 0} (R : RingOn A) (ring : IsRing R) where
   unit-elem : (n b : ℕ) → AllElem R (unit_column R n b)

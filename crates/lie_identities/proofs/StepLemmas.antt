@@ -9,8 +9,8 @@ use Rattle.std.proofs.lemmas.Bool.Decides.{Decides-int_eq}
 use Rattle.lie_ring.specs.Rings.{RingOn, IsElem, IsRing, sum_below}
 use Rattle.lie_ring.specs.Powers.{power}
 use Rattle.lie_ring.specs.RingLemmas.{zero_add, zero_mul, mul_zero, int_zero}
-use Rattle.lie_ring.specs.SumLemmas.{sum-elem, sum-same, sum-mul}
-use Rattle.lie_ring.specs.Matrices.{Matrix, entry}
+use Rattle.lie_ring.specs.SumLemmas.{sum-mul}
+use Rattle.lie_ring.specs.Matrices.{entry}
 use Rattle.lie_const.specs.Modules.{Module, dimension, top, divided_power}
 use Rattle.lie_identities.specs.Additions.{added_in}
 use Rattle.lie_identities.specs.Moves.{addition}
@@ -18,7 +18,6 @@ use Rattle.lie_identities.specs.declared.steps.Step.{Step}
 use Rattle.lie_identities.proofs.FactorLemmas.{power-elem, step-elem}
 use Rattle.lie_identities.specs.Columns.{moved_entry}
 use Rattle.lie_identities.specs.StepLists.{step, step_at, steps_in, steps_of}
-use Rattle.lie_identities.proofs.SideLemmas.{moved-elem}
 
 module _ {A : Type 0} (R : RingOn A) (ring : IsRing R) where
   -- all are elements

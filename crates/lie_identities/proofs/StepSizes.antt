@@ -1,21 +1,20 @@
 -- The sizes of what the steps of a column add are at most those that the size of X_r(f) has there.
 -- Own: the sizes.
-use Rattle.std.proofs.Common.{◌≡◌, ℕ, zero, suc, ◌+◌, ◌*◌, ◌<◌, ◌≤◌, ℤ, pos, negsuc, ◌+ℤ◌, ◌*ℤ◌, nat_abs, List, [], ◌∷◌, map, cond, eqb, true, false, Bool, refl, sym, ap, ap₂, ◌∙◌, subst, arith}
+use Rattle.std.proofs.Common.{ℕ, suc, ◌<◌, ℤ, pos, ◌*ℤ◌, nat_abs, List, [], ◌∷◌, map, cond, eqb, true, false, Bool, refl, sym, ap, ◌∙◌, subst, arith}
 use Rattle.std.specs.Prelude.{◌≤ℤ◌}
 use Rattle.std.proofs.lemmas.Int.{ints}
-use Rattle.lie_ring.specs.Rings.{RingOn, IsElem, IsRing, sum_below}
+use Rattle.lie_ring.specs.Rings.{RingOn, IsElem, IsRing}
 use Rattle.lie_ring.specs.Integers.{integers}
 use Rattle.lie_ring.specs.IntegerLaws.{integers_ring, integers_commutative}
 use Rattle.lie_ring.specs.Powers.{power}
 use Rattle.lie_ring.specs.RingLemmas.{mul_zero, zero_mul}
-use Rattle.lie_ring.specs.SumLemmas.{sum-mul, sum-same}
+use Rattle.lie_ring.specs.SumLemmas.{sum-mul}
 use Rattle.lie_ring.specs.Matrices.{entry}
 use Rattle.lie_const.specs.Modules.{Module, dimension, top, divided_power}
 use Rattle.lie_identities.specs.Additions.{added_in, size_in}
 use Rattle.lie_identities.specs.Moves.{addition}
 use Rattle.lie_identities.specs.declared.steps.Step.{Step}
 use Rattle.lie_identities.proofs.FactorLemmas.{power-elem}
-use Rattle.lie_identities.proofs.SizeLemmas.{times_nonnegative}
 use Rattle.lie_identities.proofs.EntrySizes.{under_product, power-size}
 use Rattle.lie_identities.specs.Columns.{moved_size}
 use Rattle.lie_identities.specs.StepLists.{steps_of}

@@ -1,6 +1,6 @@
 -- The walk over the kept entries of a column: what the additions made so far come to, and their sizes.
 -- Own: the walk.
-use Rattle.std.proofs.Common.{◌≡◌, ◌≢◌, ℕ, zero, suc, ◌+◌, ◌*◌, ◌<◌, ◌≤◌, ℤ, pos, negsuc, ◌+ℤ◌, ◌*ℤ◌, nat_abs, List, [], ◌∷◌, ◌++◌, map, cond, eqb, true, false, Bool, refl, sym, ap, ap₂, ◌∙◌, subst, arith, inl, inr}
+use Rattle.std.proofs.Common.{◌≡◌, ℕ, zero, suc, ◌+◌, ◌<◌, ◌≤◌, ℤ, pos, ◌*ℤ◌, nat_abs, List, [], ◌∷◌, ◌++◌, map, cond, eqb, sym, ap, ap₂, ◌∙◌, subst, arith, inl, inr}
 use Rattle.std.specs.Prelude.{◌≤ℤ◌}
 use Rattle.std.proofs.lemmas.Int.{ints}
 use Rattle.std.proofs.lemmas.Bool.{cases_eq}
@@ -8,7 +8,7 @@ use Rattle.lie_ring.specs.Rings.{RingOn, IsElem, IsRing, sum_below}
 use Rattle.lie_ring.specs.Integers.{integers}
 use Rattle.lie_ring.specs.Powers.{power}
 use Rattle.lie_ring.specs.RingLemmas.{mul_zero}
-use Rattle.lie_ring.specs.SumLemmas.{sum-elem, sum-zeros}
+use Rattle.lie_ring.specs.SumLemmas.{sum-elem}
 use Rattle.lie_ring.specs.Matrices.{Matrix, entry, product, AllElem}
 use Rattle.lie_mat.specs.Kept.{AreZeros, IsNextKept}
 use Rattle.lie_const.specs.Modules.{Module, dimension, top, divided_power, root_element}
@@ -18,9 +18,9 @@ use Rattle.lie_identities.specs.declared.steps.Step.{Step}
 use Rattle.lie_identities.specs.Columns.{moved_entry, moved_size, part, part_size}
 use Rattle.lie_identities.specs.StepLists.{steps_of}
 use Rattle.lie_identities.proofs.FactorLemmas.{power-elem}
-use Rattle.lie_identities.proofs.SizeLemmas.{sum_monotone, sum_nonnegative, times_nonnegative}
+use Rattle.lie_identities.proofs.SizeLemmas.{sum_nonnegative, times_nonnegative}
 use Rattle.lie_identities.proofs.SideLemmas.{moved-elem, root-product}
-use Rattle.lie_identities.proofs.StepLemmas.{AreElems, added-elem, added-append, steps-add}
+use Rattle.lie_identities.proofs.StepLemmas.{AreElems, added-append, steps-add}
 use Rattle.lie_identities.proofs.StepSizes.{steps-size}
 
 -- the sizes of what two lists add

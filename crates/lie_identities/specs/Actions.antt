@@ -4,7 +4,7 @@
 --
 --   the factor that an action stands for       factor_of x
 --   it has the powers that a module needs       HasPowersFor v x
-use Rattle.std.specs.Prelude.{◌≡◌, ℕ, ◌+◌, ◌*◌, ◌^◌, ◌<◌, ◌≤◌, List, map}
+use Rattle.std.specs.Prelude.{ℕ, ◌+◌, ◌*◌, ◌^◌, ◌<◌, ◌≤◌, List, map}
 use Rattle.std.specs.List.{All}
 use Rattle.std.specs.Global.{Vec}
 use Rattle.lie_ring.specs.Rings.{Fits}

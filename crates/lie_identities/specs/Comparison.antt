@@ -1,7 +1,7 @@
 -- Where two sides of a relation differ first.
 -- For proofs: no public clause cites it.
 -- Own: the order: by column, then row, then exponents.
-use Rattle.std.specs.Prelude.{◌≡◌, ◌≢◌, ℕ, ◌+◌, ◌<◌, ◌≤◌, ℤ, Option, Some, None, ⊤}
+use Rattle.std.specs.Prelude.{◌≡◌, ◌≢◌, ℕ, ◌+◌, ◌<◌, ◌≤◌, ℤ, ⊤}
 use Rattle.lie_ring.specs.Matrices.{Matrix, entry}
 use Rattle.lie_poly.specs.Polynomials.{Polynomial, laurent, coefficient}
 use Rattle.lie_poly.specs.Differences.{IsFirstDifference}

@@ -5,7 +5,7 @@
 --   f^k E_ab x                      moved (f^k) E_ab x
 --   what a step adds                addition R f x s       the row, and f^k E_ab x
 --   f, f^2, ..                      ArePowersOf f ps
-use Rattle.std.specs.Prelude.{◌≡◌, ◌≢◌, ℕ, suc, ◌+◌, ◌*◌, ◌-◌, ◌<◌, ◌≤◌, ◌^◌, ℤ, pos, nat_abs, ◌+ℤ◌, ◌<ℤ◌, ◌≤ℤ◌, List, [], ◌∷◌, length, slice_index_or}
+use Rattle.std.specs.Prelude.{◌≡◌, ◌≢◌, ℕ, suc, ◌+◌, ◌*◌, ◌<◌, ◌≤◌, ◌^◌, ℤ, pos, nat_abs, ◌+ℤ◌, ◌<ℤ◌, ◌≤ℤ◌, List, length, slice_index_or}
 use Rattle.std.specs.List.{All}
 use Rattle.lie_ring.specs.Rings.{RingOn, Fits, sum_below}
 use Rattle.lie_ring.specs.Integers.{integers}

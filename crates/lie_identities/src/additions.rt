@@ -18,7 +18,12 @@ use lie_poly::{Laurent, Poly};
 use std::alloc::{AllocError, Global};
 
 /// The entry in a row with a polynomial added.
-fn raised(alloc: Global, column: &Mat<Laurent>, row: usize, value: &Poly) -> Result<Poly, AllocError>
+fn raised(
+    alloc: Global,
+    column: &Mat<Laurent>,
+    row: usize,
+    value: &Poly,
+) -> Result<Poly, AllocError>
     requires row { row < column.now.height }
     requires width { column.now.width ≡ 1 }
     requires fit { AllFit laurent column.now }

@@ -129,10 +129,10 @@ fn compare_on(
     requires col { col < dimension steps.now.module.now }
     ensures { MatchResult result
         (λ _. side_column laurent_variables steps.now.datum.now steps.now.module.now (map factor_of left.now) col
-            ≡ side_column laurent_variables steps.now.datum.now steps.now.module.now (map factor_of right.now) col)
+        ≡ side_column laurent_variables steps.now.datum.now steps.now.module.now (map factor_of right.now) col)
         (IsColumnDifference rel.now
-            (side_column laurent_variables steps.now.datum.now steps.now.module.now (map factor_of left.now) col)
-            (side_column laurent_variables steps.now.datum.now steps.now.module.now (map factor_of right.now) col) col) }
+        (side_column laurent_variables steps.now.datum.now steps.now.module.now (map factor_of left.now) col)
+        (side_column laurent_variables steps.now.datum.now steps.now.module.now (map factor_of right.now) col) col) }
 {
     if !side_moves(steps, left, col) && !side_moves(steps, right, col) {
         return Ok(());
@@ -155,10 +155,10 @@ pub(crate) fn compare(
     requires right { IsNarrowSide steps.now.datum.now steps.now.module.now right.now }
     ensures { MatchResult result
         (λ _. side_matrix laurent_variables steps.now.datum.now steps.now.module.now left.now
-            ≡ side_matrix laurent_variables steps.now.datum.now steps.now.module.now right.now)
+        ≡ side_matrix laurent_variables steps.now.datum.now steps.now.module.now right.now)
         (IsDifference rel.now
-            (side_matrix laurent_variables steps.now.datum.now steps.now.module.now left.now)
-            (side_matrix laurent_variables steps.now.datum.now steps.now.module.now right.now)) }
+        (side_matrix laurent_variables steps.now.datum.now steps.now.module.now left.now)
+        (side_matrix laurent_variables steps.now.datum.now steps.now.module.now right.now)) }
 {
     let left = actions(alloc, steps, left)?;
     let right = actions(alloc, steps, right)?;

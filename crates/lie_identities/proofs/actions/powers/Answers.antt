@@ -1,4 +1,4 @@
-use Rattle.std.proofs.Common.{◌≡◌, ◌+◌, ◌-◌, ◌*◌, ◌<◌, ◌≤◌, ◌^◌, ◌∷◌, [], ◌++◌, suc, length, get_or, refl, sym, ap, ap₂, subst, ◌∙◌, arith}
+use Rattle.std.proofs.Common.{◌≡◌, ◌+◌, ◌-◌, ◌*◌, ◌<◌, ◌^◌, ◌∷◌, [], ◌++◌, suc, length, refl, sym, ap, ap₂, subst, ◌∙◌, arith}
 use Rattle.lie_ring.specs.Rings.{Fits}
 use Rattle.lie_ring.specs.Powers.{power}
 use Rattle.lie_ring.specs.RingLemmas.{one_mul}

@@ -1,4 +1,4 @@
-use Rattle.std.proofs.Common.{◌≡◌, ◌<◌, ◌+◌, ◌^◌, ◌∷◌, ℕ, drop, get_or, refl, sym, ap, subst, ◌∙◌, arith}
+use Rattle.std.proofs.Common.{◌<◌, ◌+◌, ◌^◌, ◌∷◌, ℕ, drop, refl, sym, ap, subst, ◌∙◌}
 use Rattle.lie_ring.specs.Matrices.{entry, IsShaped}
 use Rattle.lie_ring.specs.MatrixLemmas.{table-shaped}
 use Rattle.lie_poly.specs.Polynomials.{laurent, plus, size, Polynomial}

@@ -1,5 +1,4 @@
-use Rattle.std.proofs.Common.{◌≡◌, ◌+◌, ◌≤◌, ◌++◌, map, sym, ap, subst, ◌∙◌, arith}
-use Rattle.lie_ring.specs.Matrices.{entry}
+use Rattle.std.proofs.Common.{◌+◌, ◌≤◌, ◌++◌, map, sym, ap, subst, ◌∙◌, arith}
 use Rattle.lie_const.specs.Modules.{dimension, top}
 use Rattle.lie_poly.specs.Polynomials.{laurent}
 use Rattle.lie_identities.specs.Moves.{base_of, AreNarrowSteps, AddsRows, addition}

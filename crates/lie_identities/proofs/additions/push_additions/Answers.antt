@@ -1,7 +1,7 @@
-use Rattle.std.proofs.Common.{◌≡◌, ◌∷◌, [], ◌++◌, ◌-◌, ◌+◌, ◌<◌, ℕ, suc, pos, take, map, get_or, sym, ap, ap₂, subst, ◌∙◌, arith, append_assoc}
+use Rattle.std.proofs.Common.{◌≡◌, ◌∷◌, [], ◌++◌, ◌-◌, suc, pos, take, map, get_or, sym, ap, ap₂, subst, ◌∙◌, arith, append_assoc}
 use Rattle.std.proofs.lemmas.List.{take_more, map-append}
 use Rattle.lie_ring.specs.Powers.{power}
-use Rattle.lie_poly.specs.Polynomials.{laurent, Polynomial}
+use Rattle.lie_poly.specs.Polynomials.{laurent}
 use Rattle.lie_identities.specs.Moves.{IsNarrowMove, moved, addition, base_of}
 use Rattle.lie_identities.specs.declared.steps.Step.{Step}
 use Rattle.lie_identities.proofs.additions.push_additions.Goals as goal

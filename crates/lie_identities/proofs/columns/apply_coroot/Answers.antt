@@ -1,7 +1,6 @@
-use Rattle.std.proofs.Common.{◌≡◌, ◌+◌, ◌*◌, ◌<◌, ◌≤◌, ◌^◌, sym, ap, subst, ◌∙◌, arith}
-use Rattle.lie_ring.specs.Matrices.{entry}
+use Rattle.std.proofs.Common.{◌≡◌, ◌+◌, ◌<◌, ◌^◌, sym, subst, arith}
 use Rattle.lie_const.specs.Modules.{dimension}
-use Rattle.lie_poly.specs.Polynomials.{laurent, degree}
+use Rattle.lie_poly.specs.Polynomials.{degree}
 use Rattle.lie_identities.specs.AuditRelations.{coroot_power}
 use Rattle.lie_identities.specs.Audit.{laurent_variables}
 use Rattle.lie_identities.specs.Moves.{AreRowsMultiplied}

@@ -1,10 +1,9 @@
-use Rattle.std.proofs.Common.{◌≡◌, ◌≤◌, ℤ, pos, nat_abs, get_or, [], sym, ap, subst, ◌∙◌, arith}
+use Rattle.std.proofs.Common.{◌≡◌, ◌≤◌, pos, nat_abs, sym, subst, ◌∙◌, arith}
 use Rattle.std.specs.Prelude.{IfOk}
 use Rattle.std.proofs.lemmas.Int.{ints}
 use mir.Syntax.{w32, w128}
 use mir.Val.{to_z, of_z}
-use Rattle.lie_datum.specs.Vectors.{pairing}
-use Rattle.lie_datum.specs.RootDatum.{simple_coroot, IsWithin}
+use Rattle.lie_datum.specs.RootDatum.{IsWithin}
 use Rattle.lie_orbit.proofs.WeightLemmas.{covector_within}
 use Rattle.lie_poly.specs.Polynomials.{monomial}
 use Rattle.lie_identities.proofs.ActionLemmas.{coroot-exponent}

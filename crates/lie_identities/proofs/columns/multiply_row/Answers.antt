@@ -1,8 +1,7 @@
-use Rattle.std.proofs.Common.{◌≡◌, ◌+◌, ◌*◌, ◌<◌, ◌≤◌, ◌^◌, refl, sym, ap, ap₂, subst, ◌∙◌, arith}
+use Rattle.std.proofs.Common.{◌+◌, ◌<◌, ◌≤◌, ◌^◌, refl, sym, ap₂, subst, ◌∙◌, arith}
 use Rattle.std.proofs.Math.Nat.{mul-le-mul_right}
 use Rattle.lie_ring.specs.Rings.{Fits}
 use Rattle.lie_ring.specs.Matrices.{entry}
-use Rattle.lie_datum.specs.Vectors.{pairing}
 use Rattle.lie_poly.specs.Polynomials.{laurent, product, size, degree}
 use Rattle.lie_identities.specs.AuditRelations.{coroot_power}
 use Rattle.lie_identities.specs.Audit.{laurent_variables}

@@ -1,4 +1,4 @@
-use Rattle.std.proofs.Common.{◌≡◌, ◌+◌, ◌-◌, ◌<◌, ◌≤◌, length, drop, map, sym, ap, subst, ◌∙◌, arith}
+use Rattle.std.proofs.Common.{◌≡◌, ◌+◌, ◌-◌, ◌<◌, length, drop, map, sym, ap, subst, ◌∙◌, arith}
 use Rattle.lie_ring.specs.Matrices.{product}
 use Rattle.lie_poly.specs.Polynomials.{laurent}
 use Rattle.lie_identities.specs.AuditRelations.{factor_matrix}

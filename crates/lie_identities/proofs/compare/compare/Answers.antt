@@ -1,7 +1,5 @@
-use Rattle.std.proofs.Common.{◌≡◌, ◌+◌, ◌<◌, ◌≤◌, map, sym, ap, ap₂, subst, ◌∙◌, arith, below_more, rules}
+use Rattle.std.proofs.Common.{◌≡◌, map, sym, ap, subst, ◌∙◌, arith, below_more}
 use Rattle.std.proofs.lemmas.Result.{err_from_is_err_and}
-use Rattle.lie_const.specs.Modules.{dimension}
-use Rattle.lie_poly.specs.Polynomials.{Polynomial}
 use Rattle.lie_identities.specs.Actions.{factor_of}
 use Rattle.lie_identities.specs.Audit.{laurent_variables}
 use Rattle.lie_identities.specs.Columns.{side_column}
@@ -39,6 +37,6 @@ returns-in_err-compare_on c =
     let left = ap (map factor_of) c.deref.ensures.value ∙ c.in_ok-left.ensures.same in
     let right = ap (map factor_of) c.deref-in-loop-col.ensures.value ∙ c.in_ok-right.ensures.same in
     let here = subst (λ xs. IsColumnDifference q (side_column laurent_variables d v ls k) (side_column laurent_variables d v xs k) k fault) right
-        (subst (λ xs. IsColumnDifference q (side_column laurent_variables d v xs k) (side_column laurent_variables d v (map factor_of c.deref-in-loop-col.result.now) k) k fault) left c.in_err-compare_on.ensures) in
+    (subst (λ xs. IsColumnDifference q (side_column laurent_variables d v xs k) (side_column laurent_variables d v (map factor_of c.deref-in-loop-col.result.now) k) k fault) left c.in_err-compare_on.ensures) in
     let p = err_from_is_err_and c.from_residual-in_err-compare_on.result c.from_residual-in_err-compare_on.ensures.1 in
     rw (p.1, p.2) (fault-of_column d v q ls rs k fault (omega (arith, t, e)) c.loop-col.invariant here)

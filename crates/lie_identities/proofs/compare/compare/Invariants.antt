@@ -1,5 +1,4 @@
-use Rattle.std.proofs.Common.{◌≡◌, ◌<◌, ℕ, map}
-use Rattle.lie_identities.specs.Actions.{factor_of}
+use Rattle.std.proofs.Common.{◌≡◌, ◌<◌, ℕ}
 use Rattle.lie_identities.specs.Audit.{laurent_variables}
 use Rattle.lie_identities.specs.Columns.{side_column}
 use Rattle.lie_identities.proofs.compare.compare.Given as goal

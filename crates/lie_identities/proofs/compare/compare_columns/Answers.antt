@@ -1,4 +1,4 @@
-use Rattle.std.proofs.Common.{◌≡◌, ◌+◌, ◌<◌, arith}
+use Rattle.std.proofs.Common.{arith}
 use Rattle.lie_identities.proofs.compare.compare_columns.Goals as goal
 
 pub overflow_add-result : goal.overflow_add-result

@@ -1,4 +1,4 @@
-use Rattle.std.proofs.Common.{◌≡◌, ◌<◌, ◌≤◌, map, sym, subst, arith}
+use Rattle.std.proofs.Common.{map, sym, subst, arith}
 use Rattle.lie_const.specs.Modules.{dimension}
 use Rattle.lie_identities.specs.Actions.{factor_of}
 use Rattle.lie_identities.specs.Audit.{laurent_variables}

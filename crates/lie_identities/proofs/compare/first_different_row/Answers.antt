@@ -1,7 +1,5 @@
-use Rattle.std.proofs.Common.{◌≡◌, ◌+◌, ◌<◌, ◌≤◌, ◌-◌, sym, ◌∙◌, arith, inl, inr}
+use Rattle.std.proofs.Common.{◌+◌, ◌<◌, ◌-◌, sym, ◌∙◌, arith, inl, inr}
 use Rattle.std.proofs.lemmas.Bool.{false≢true, cases_lt}
-use Rattle.lie_ring.specs.Matrices.{entry}
-use Rattle.lie_poly.specs.Polynomials.{laurent}
 use Rattle.lie_identities.proofs.ComparisonLemmas.{same-entries, before-next, same-next}
 use Rattle.lie_identities.proofs.compare.first_different_row.Goals as goal
 

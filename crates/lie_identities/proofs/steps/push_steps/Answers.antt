@@ -5,7 +5,6 @@ use Rattle.std.specs.List.{flat_map, range_with_len}
 use Rattle.std.proofs.lemmas.Int.{ints}
 use Rattle.std.proofs.lemmas.List.{append-nil}
 use Rattle.lie_ring.specs.Matrices.{entry}
-use Rattle.lie_const.specs.Modules.{dimension}
 use Rattle.lie_identities.specs.StepLists.{step, step_at}
 use Rattle.lie_identities.proofs.StepWalks.{step-next, steps-end}
 use Rattle.lie_identities.proofs.steps.push_steps.Goals as goal

@@ -1,8 +1,5 @@
-use Rattle.std.proofs.Common.{◌≡◌, ◌+◌, ◌++◌, ℕ, suc, pos, ◌<◌, ◌^◌, nat_abs, sym, ap, subst, ◌∙◌, arith, inl, inr}
+use Rattle.std.proofs.Common.{◌≡◌, ◌+◌, ◌++◌, sym, ap, ◌∙◌, arith}
 use Rattle.std.specs.List.{flat_map, range_with_len}
-use Rattle.std.proofs.lemmas.Bool.{cases_eq}
-use Rattle.lie_ring.specs.Matrices.{entry}
-use Rattle.lie_const.specs.Modules.{divided_power}
 use Rattle.lie_identities.specs.StepLists.{steps_in}
 use Rattle.lie_identities.proofs.StepWalks.{flat-next, small-next}
 use Rattle.lie_identities.proofs.steps.steps_of_column.Goals as goal

@@ -1,4 +1,4 @@
-use Rattle.std.proofs.Common.{◌≡◌, ◌+◌, ◌*◌, ◌<◌, map, length, sym, ap, ap₂, subst, ◌∙◌, arith}
+use Rattle.std.proofs.Common.{◌≡◌, map, ap, ap₂, ◌∙◌, arith}
 use Rattle.lie_datum.specs.Numbers.{number_at, place}
 use Rattle.lie_identities.specs.StepLists.{root_steps}
 use Rattle.lie_identities.proofs.StepWalks.{lists-count, list-at, columns-count, column-at, number-place}
