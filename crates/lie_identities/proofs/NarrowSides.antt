@@ -8,7 +8,6 @@ use Rattle.std.proofs.lemmas.List.Elements.{All-cons, All-head, All-tail, All-ma
 use Rattle.lie_ring.specs.Rings.{Fits}
 use Rattle.lie_datum.specs.RootDatum.{IsSimpleIndex, reflected, is_reflected}
 use Rattle.lie_datum.specs.RootList.{RootDatum, IsLoaded, IsNumber, root_of}
-use Rattle.lie_datum.proofs.NumberLemmas.{place_within}
 use Rattle.lie_datum.proofs.SignedRoots.{opposite_number, root_is, number_is}
 use Rattle.lie_const.specs.declared.term.Term.{Term}
 use Rattle.lie_const.specs.ConstantTables.{ConstantTable, LoadsConstants, terms_of}
@@ -21,7 +20,7 @@ use Rattle.lie_poly.specs.Polynomials.{Polynomial, laurent, degree}
 use Rattle.lie_identities.specs.declared.relations.Rel.{Rel}
 use Rattle.lie_identities.specs.declared.relations.Rel.TheVariants.{S1, S2, S6, S7}
 use Rattle.lie_identities.specs.AuditRelations.{Factor, RootElement, CorootElement, side_size}
-use Rattle.lie_identities.specs.Audit.{left_factors, right_factors}
+use Rattle.lie_identities.specs.Audit.{laurent_variables, left_factors, right_factors}
 use Rattle.lie_identities.specs.Columns.{IsFactorOf, IsNarrowSide, side_degree}
 use Rattle.lie_identities.specs.Sides.{IsRelationOf, HasRoot, factor_weight, factor_depth, term_factor}
 use Rattle.lie_identities.specs.StepLists.{HasFewPowers}
@@ -50,8 +49,9 @@ module _ (d : RootDatum) (loaded : IsLoaded d) where
     pub right-roots : (q : Rel) → IsRelationOf d q → All (HasRoot d) (right_factors d c eta q)
     right-roots (S1 r) h = All-from_recursion (HasRoot d) (right_factors d c eta (S1 r)) (h, tt)
     right-roots (S2 r s) h =
-        All-cons (HasRoot d) (RootElement r _) _ h.left
-        (All-cons (HasRoot d) (RootElement s _) _ h.right
+        let rest : List (Factor Polynomial) = map term_factor (terms_of c r s) in
+        All-cons (HasRoot d) (RootElement r (laurent_variables.t_to (pos 1))) (RootElement s laurent_variables.u ∷ rest) h.left
+        (All-cons (HasRoot d) (RootElement s laurent_variables.u) rest h.right
         (All-map (HasRoot d) term_factor (terms_of c r s) (table_terms_number d loaded c loads r s h)))
     right-roots (S6 i) h = All-from_recursion (HasRoot d) (right_factors d c eta (S6 i)) (h, tt)
     right-roots (S7 i s) h = All-from_recursion (HasRoot d) (right_factors d c eta (S7 i s)) (image_number i s h.0 h.1, (up i h.0, (down i h.0, (up i h.0, tt))))
@@ -96,7 +96,7 @@ module _ (v : Module) (few : HasFewPowers v) where
   right-degree : (d : RootDatum) (c : ConstantTable) (eta : Signs) → LoadsConstants d (Ok c) → (q : Rel) → IsRelationOf d q → All (λ x. factor_depth x ≤ 3) (right_factors d c eta q) → side_degree v (right_factors d c eta q) < 2 ^ 30
   right-degree d c eta loads (S1 r) h a = small-degree (right_factors d c eta (S1 r)) tt (omega arith) a
   right-degree d c eta loads (S2 r s) h a =
-      let n = length-map term_factor (terms_of c r s) in
+      let n = length-map (terms_of c r s) term_factor in
       let l = table_terms_few d c loads r s h in
       small-degree (right_factors d c eta (S2 r s)) (terms-are_roots (terms_of c r s)) (omega (arith, n, l)) a
   right-degree d c eta loads (S6 i) h a = omega arith
@@ -104,7 +104,7 @@ module _ (v : Module) (few : HasFewPowers v) where
 
 -- ---- the sides
 factor-of : (d : RootDatum) (x : Factor Polynomial) → HasRoot d x → factor_weight x ≤ 64 → IsFactorOf d x
-factor-of d (RootElement r f) h l = let w = place_within d r h in (w.0, w.1, (refl, omega (arith, l)))
+factor-of d (RootElement r f) h l = (h, (refl, omega (arith, l)))
 factor-of d (CorootElement i) h l = h
 
 factors-of : (d : RootDatum) (xs : List (Factor Polynomial)) → All (HasRoot d) xs → All (λ x. factor_weight x ≤ 64) xs → All (IsFactorOf d) xs

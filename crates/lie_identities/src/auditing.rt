@@ -35,17 +35,17 @@ pub fn audit(
     datum: &Datum,
     consts: &Constants,
     signs: &Signs,
-    module: Module,
+    space: Module,
 ) -> Result<Audited, AuditFault>
     requires constants { LoadsConstants datum.now (Ok consts.now) }
     requires signs { IsSignTable datum.now signs.now }
-    requires shape { IsModule datum.now «module» }
-    requires light { HasLightWeights «module» }
-    ensures audits { Audits datum.now consts.now (eta_of signs.now) «module» (audited_module result) }
-    ensures kept { IfOk result (λ a. a ≡ record { «module» = «module»; datum = datum.now; constants = consts.now; signs = signs.now }) }
+    requires shape { IsModule datum.now space }
+    requires light { HasLightWeights space }
+    ensures audits { Audits datum.now consts.now (eta_of signs.now) space (audited_module result) }
+    ensures kept { IfOk result (λ a. a ≡ record { «module» = space; datum = datum.now; constants = consts.now; signs = signs.now }) }
 {
-    test_module(alloc, datum, consts, signs, &module)?;
-    Ok(Audited::of(datum, consts, signs, module))
+    test_module(alloc, datum, consts, signs, &space)?;
+    Ok(Audited::of(datum, consts, signs, space))
 }
 
 /// Tests the grading of a module, then its relations.

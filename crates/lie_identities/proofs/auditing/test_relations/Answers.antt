@@ -19,8 +19,8 @@ test_relation-requires-clause-relation c =
     let d = c.args.steps.now.datum.now in
     let k = c.loop-rel.rel-index in
     let q = c.rel-item.result in
-    let l = subst (λ (xs : List Rel). k < length xs) c.in_ok-rels.ensures c.loop-rel-test.true in
-    let is = c.rel-item.is ∙ ap (λ (xs : List Rel). get_or xs k q) c.in_ok-rels.ensures in
+    let l = subst (λ (xs : List Rel). k < length xs) (c.deref-rel-items.ensures.value ∙ c.in_ok-rels.ensures) c.loop-rel-test.true in
+    let is = c.rel-item.is ∙ ap (λ (xs : List Rel). get_or xs k q) (c.deref-rel-items.ensures.value ∙ c.in_ok-rels.ensures) in
     subst (IsRelationOf d) (sym is) (All-get_or (IsRelationOf d) (relations d) k q l (relations_all d))
 
 pub loop-rel-preserved : goal.loop-rel-preserved
@@ -28,8 +28,8 @@ loop-rel-preserved c =
     let d = c.args.steps.now.datum.now in
     let k = c.loop-rel.rel-index in
     let q = c.rel-item.result in
-    let l = subst (λ (xs : List Rel). k < length xs) c.in_ok-rels.ensures c.loop-rel-test.true in
-    let is = c.rel-item.is ∙ ap (λ (xs : List Rel). get_or xs k q) c.in_ok-rels.ensures in
+    let l = subst (λ (xs : List Rel). k < length xs) (c.deref-rel-items.ensures.value ∙ c.in_ok-rels.ensures) c.loop-rel-test.true in
+    let is = c.rel-item.is ∙ ap (λ (xs : List Rel). get_or xs k q) (c.deref-rel-items.ensures.value ∙ c.in_ok-rels.ensures) in
     met-next d c.args.consts.now (eta_of c.args.signs.now) c.args.steps.now.module.now k q l is c.loop-rel.invariant c.in_ok-test_relation.ensures
 
 pub returns-in_err-test_relation : goal.returns-in_err-test_relation
@@ -39,8 +39,8 @@ returns-in_err-test_relation c =
     let eta = eta_of c.args.signs.now in
     let k = c.loop-rel.rel-index in
     let q = c.rel-item.result in
-    let l = subst (λ (xs : List Rel). k < length xs) c.in_ok-rels.ensures c.loop-rel-test.true in
-    let is = c.rel-item.is ∙ ap (λ (xs : List Rel). get_or xs k q) c.in_ok-rels.ensures in
+    let l = subst (λ (xs : List Rel). k < length xs) (c.deref-rel-items.ensures.value ∙ c.in_ok-rels.ensures) c.loop-rel-test.true in
+    let is = c.rel-item.is ∙ ap (λ (xs : List Rel). get_or xs k q) (c.deref-rel-items.ensures.value ∙ c.in_ok-rels.ensures) in
     let p = err_from_is_err_and c.from_residual-in_err-test_relation.result c.from_residual-in_err-test_relation.ensures.1 in
     rw (p.1, p.2) (fault-of d c.args.consts.now eta v q c.requires.graded (met-before d c.args.consts.now eta v k q l is c.loop-rel.invariant) c.in_err-test_relation.field-0.0 c.in_err-test_relation.ensures)
 
@@ -48,7 +48,7 @@ pub returns : goal.returns
 returns c =
     let d = c.args.steps.now.datum.now in
     let k = c.loop-rel.rel-index in
-    let all = take_all k (relations d) (subst (λ (xs : List Rel). length xs ≤ k) c.in_ok-rels.ensures c.loop-rel-test.false) in
+    let all = take_all k (relations d) (subst (λ (xs : List Rel). length xs ≤ k) (c.deref-rel-items.ensures.value ∙ c.in_ok-rels.ensures) c.loop-rel-test.false) in
     record {
       graded = c.requires.graded;
       relations = subst (All (IsMet d c.args.consts.now (eta_of c.args.signs.now) c.args.steps.now.module.now)) all c.loop-rel.invariant;

@@ -10,7 +10,7 @@ loop-step-preserved c =
     let n = c.args.size in
     let ss = c.args.column.now in
     let k = c.loop-step.step-index in
-    let none : Step = get_or ss k (record { power = 0; row = 0; value = pos 0 }) in
+    let none : Step = record { power = 0; row = 0; value = pos 0 } in
     let s : Step = get_or ss k none in
     let more = ap (steps_total n) (take_more ss k none c.loop-step-test.true) ∙ total-append n (take k ss) (s ∷ []) in
     let before = c.loop-step.invariant in
