@@ -22,3 +22,13 @@ pub mod PowerLemmas
 pub mod ColumnLemmas
 pub mod ActionLemmas
 pub mod ComparisonLemmas
+pub mod Appended
+pub mod MonomialLemmas
+pub mod TermBounds
+pub mod NarrowSides
+pub mod ListedRelations
+pub mod RelationMembers
+pub mod GradingLemmas
+pub mod NaturalSizes
+pub mod BoundLemmas
+pub mod AuditLemmas

@@ -7,3 +7,7 @@ pub mod Additions
 pub mod Moves
 pub mod Actions
 pub mod Comparison
+pub mod Sides
+pub mod Grading
+pub mod Sizes
+pub mod Audited

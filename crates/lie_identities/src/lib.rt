@@ -1,24 +1,37 @@
-//! What it means that a module is audited, and which fault is named where it is not: the statement of the audit.
+//! The audit of a module: whether the relations between root elements hold on it, as identities over the Laurent
+//! polynomials.
+//!
+//! `audit` tests a module for a datum, its constants and its signs, and answers it as an `Audited`, or what fails first. It
+//! takes one basis vector at a time, as a sparse column. An `Audited` keeps what it is audited for, as clauses see it.
 //!
 //! `specs/AuditRelations.antt` has the relations S1, S2, S6 and S7 as equations between products of matrices, their
-//! order and their sizes; `specs/Audit.antt` says what an audited module is, over the Laurent polynomials, and which
-//! fault comes first where one is not. The faults exclude one another and success (`one_audit_answer`), and the
-//! modules of `lie_weight` have weights that are small enough (`adjoint_is_light`, `orbit_is_light`). The call itself
-//! is not here yet. The crate stands on `lie_weight`, `lie_orbit`, `lie_poly`, `lie_const`, `lie_mat`, `lie_ring`,
+//! order and their sizes; `specs/Audit.antt` says what an audited module is, and which fault comes first where one is not;
+//! `specs/Audited.antt` has what an `Audited` keeps. The faults exclude one another and success (`one_audit_answer`), and the
+//! modules of `lie_weight` have weights that are small enough (`adjoint_is_light`, `orbit_is_light`). The crate is the
+//! lower half of lie_audit. It stands on `lie_weight`, `lie_orbit`, `lie_poly`, `lie_const`, `lie_mat`, `lie_ring`,
 //! `lie_datum` and `thiserror`.
 #![tactic(auto)]
 
 mod actions;
 mod additions;
+mod audited;
+mod auditing;
+mod bounds;
 mod columns;
 mod compare;
 mod factors;
 mod faults;
+mod grading;
 mod laws;
+mod listing;
 mod narrow;
 mod relations;
+mod sides;
+mod sizes;
 mod steps;
 
+pub use audited::Audited;
+pub use auditing::audit;
 pub use faults::AuditFault;
 pub use laws::{adjoint_is_light, one_audit_answer, orbit_is_light};
 pub use relations::Rel;
