@@ -9,7 +9,6 @@ ghost use Rattle.lie_letters.specs.Braids.{IsBraidValue, HasBraids, IsFirstBadBr
 ghost use Rattle.lie_audit.specs.SignParts.{unit};
 ghost use Rattle.lie_audit.specs.BraidParts.{HasBraidsFrom, IsFirstBadIn};
 
-use crate::entries::simple;
 use crate::faults::BraidFault;
 use lie_const::Signs;
 use lie_datum::{Datum, RootId, pairing};
@@ -23,7 +22,7 @@ fn cartan_integer(datum: &Datum, i: usize, j: usize) -> i128
     ensures bound { unsigned_abs result ≤ 80000 }
 {
     datum.loaded();
-    pairing(datum.root(simple(datum, i)), datum.coroot(simple(datum, j)))
+    pairing(datum.root(datum.simple(i)), datum.coroot(datum.simple(j)))
 }
 
 /// The product c_ij c_ji of two Cartan integers.
@@ -73,7 +72,7 @@ fn braid_value(datum: &Datum, signs: &Signs, i: usize, j: usize) -> i128
     ensures { IsBraidValue datum.now (eta_of signs.now) i j result }
 {
     datum.loaded();
-    let mut root = simple(datum, i);
+    let mut root = datum.simple(i);
     let mut letter = j;
     let mut other = i;
     let mut minus = false;

@@ -11,20 +11,9 @@ ghost use Rattle.lie_const.specs.Signs.{sign_entry};
 ghost use Rattle.lie_weight.specs.Laws.{HasSmallMatrices};
 ghost use Rattle.lie_audit.specs.SignParts.{unit, Lists, IsWithinList, row_value, entry_bound};
 
-use lie_datum::{Datum, RootId, simples_first};
+use lie_datum::{Datum, RootId};
 use lie_weight::{Module, place_in_basis};
 use std::alloc::{AllocError, Global};
-
-/// The simple root a_i, with i counted from 1.
-pub(crate) fn simple(datum: &Datum, i: usize) -> RootId
-    requires { IsSimpleIndex datum.now.base i }
-    ensures value { result ≡ pos i }
-    ensures number { IsNumber datum.now result }
-{
-    datum.loaded();
-    simples_first();
-    RootId::at(i - 1, datum.m())
-}
 
 /// The value, or its negative.
 fn signed(minus: bool, value: i128) -> i128
@@ -179,7 +168,7 @@ pub(crate) fn weyl_entry(
     ensures size { IfOk result (λ c. unsigned_abs c ≤ entry_bound) }
 {
     datum.loaded();
-    let up = simple(datum, i);
+    let up = datum.simple(i);
     let row = place_in_basis(datum, datum.reflect(i, s));
     let first = element_column(alloc, datum, adjoint, up, false, place_in_basis(datum, s))?;
     let second = applied(alloc, datum, adjoint, up.opposite(), true, &first)?;

@@ -10,7 +10,7 @@ ghost use Rattle.lie_const.specs.Modules.{dimension, IsModule, root_element, roo
 ghost use Rattle.lie_letters.specs.Entries.{AreUnits};
 ghost use Rattle.lie_audit.specs.WordMatrix.{IsLetterFor, torus_element, letter_matrix};
 
-use crate::entries::{power_entry, simple};
+use crate::entries::power_entry;
 use lie_datum::{Datum, RootId};
 use lie_dense::Dense;
 use lie_field::{Fe, Field};
@@ -152,7 +152,7 @@ fn weyl_matrix(
 {
     let _ = datum.m();
     let one = roomy_one(field, alloc)?;
-    conjugated(alloc, field, space, simple(datum, i), one, field.neg(one))
+    conjugated(alloc, field, space, datum.simple(i), one, field.neg(one))
 }
 
 /// The matrix of the inverse of n_i.
@@ -169,7 +169,7 @@ fn inverse_matrix(
 {
     let _ = datum.m();
     let one = roomy_one(field, alloc)?;
-    conjugated(alloc, field, space, simple(datum, i), field.neg(one), one)
+    conjugated(alloc, field, space, datum.simple(i), field.neg(one), one)
 }
 
 /// The matrix of a letter.
