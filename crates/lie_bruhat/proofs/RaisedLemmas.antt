@@ -1,8 +1,11 @@
 -- Root letters at negative roots: a simple reflection raises each negative root, and n_i conjugates its letter.
-use Rattle.std.proofs.Common.{◌≡◌, ℕ, suc, ◌<◌, ℤ, pos, neg_ℤ, ◌<ℤ◌, Bool, true, false, [], ◌∷◌, ◌⊎◌, ⊎_elim, refl, sym, ap, subst, ◌∙◌, arith}
+use Rattle.std.proofs.Common.{◌≡◌, ℕ, suc, ◌<◌, ◌≤◌, ℤ, pos, neg_ℤ, ◌-ℤ◌, ◌<ℤ◌, Bool, true, false, List, [], ◌∷◌, length, ◌⊎◌, ⊎_elim, refl, sym, ap, subst, ◌∙◌, arith, Result, Ok, Err, IfOk}
 use Rattle.std.specs.Prelude.{unsigned_abs}
 use Rattle.std.proofs.lemmas.Int.{ints, by_lt_z}
-use Rattle.lie_datum.specs.RootDatum.{IsSimpleIndex, IsPositive, opposite, reflected, simple, is_simple}
+use Rattle.std.proofs.lemmas.Result.{IfOk-weaker}
+use Rattle.lie_unip.specs.Forms.{FormData}
+use Rattle.lie_datum.proofs.NumberLemmas.{place_within}
+use Rattle.lie_datum.specs.RootDatum.{rank, IsSimpleIndex, IsPositive, opposite, reflected, simple, is_simple}
 use Rattle.lie_datum.specs.RootList.{RootDatum, IsLoaded, IsNumber, root_of, height}
 use Rattle.lie_datum.proofs.HeightLemmas.{positive_number, height_positive, before_by_height}
 use Rattle.lie_datum.proofs.ReflectionLaws.{simple_reflection_law_holds}
@@ -11,12 +14,13 @@ use Rattle.lie_weyl.proofs.Signs.{simple_up}
 use Rattle.lie_weyl.proofs.Words.{twice}
 use Rattle.lie_letters.specs.Names.{RootName, Index, root_at, signed_number, simple_name, opposite_name, reflect_name, is_negative_name}
 use Rattle.lie_letters.specs.declared.letter.Letter.{Letter}
-use Rattle.lie_letters.specs.declared.letter.Letter.TheVariants.{N, Ninv}
+use Rattle.lie_letters.specs.declared.letter.Letter.TheVariants.{X, N, Ninv}
 use Rattle.lie_letters.specs.GroupSpelled.{JoinedInGroup}
 use Rattle.lie_letters.specs.SignedFrames.{SignedFrame, IsLawfulSigned}
 use Rattle.lie_letters.proofs.CallerLemmas.{JoinedInGroup-trans, JoinedInGroup-flip}
 use Rattle.lie_letters.proofs.NameLemmas.{index_is, named_is, name_of_number, at_root, simple_at, opposite_at, reflect_at}
 use Rattle.lie_letters.proofs.PositiveRootLemmas.{is_positive, number_of_positive, negative_opposite}
+use Rattle.lie_bruhat.specs.Products.{IsTimes, IsSameOrTurned, IsWeylStep}
 use Rattle.lie_bruhat.proofs.NearerLemmas.{nearer, depth_of, depth_is, height_opposite}
 use Rattle.lie_bruhat.proofs.PassLemmas.{first_over, joined_behind, joined_before}
 use Rattle.lie_bruhat.proofs.RulesHold.{reversed_cancels}
@@ -95,6 +99,54 @@ module _ (d : RootDatum) (loaded : IsLoaded d) where
     where
       between : (r s : ℤ) → r <ℤ pos 0 → pos 0 <ℤ s → r <ℤ s
       between r s a b = omega (arith, ints, a, b)
+
+-- a greater number is nearer to the last one
+pub nearer_last : (d : RootDatum) (r s : ℤ) → IsNumber d s → r <ℤ s → unsigned_abs (pos (length d.positive) -ℤ s) < unsigned_abs (pos (length d.positive) -ℤ r)
+nearer_last d r s number l = by (length d.positive) (place_within d s number).1
+  where
+    by : (m : ℕ) → unsigned_abs s ≤ m → unsigned_abs (pos m -ℤ s) < unsigned_abs (pos m -ℤ r)
+    by m h = omega (arith, ints, h, l)
+
+-- ---- the Weyl element of a form times a root letter, by the number of the root
+pub step_positive : (d : RootDatum) (r : ℤ) (a : ℕ) (before after : List ℤ) → pos 0 <ℤ r → after ≡ before → IsWeylStep d (X r a) before after
+step_positive d r a before after up e = (λ _. e, λ i s is. absurd (apart i is))
+  where
+    apart : (i : ℕ) → r ≡ neg_ℤ (pos i) → ⊥
+    apart i is = omega (arith, ints, up, is)
+
+pub step_opposite : (d : RootDatum) (r : ℤ) (a i : ℕ) (before after : List ℤ) → IsSimpleIndex d.base i → r ≡ neg_ℤ (pos i) → IsSameOrTurned d before i after → IsWeylStep d (X r a) before after
+step_opposite d r a i before after s e turned = (λ up. absurd (apart s.0 up), λ j l is. subst (λ k. IsSameOrTurned d before k after) (same j is) turned)
+  where
+    apart : 1 ≤ i → pos 0 <ℤ r → ⊥
+    apart l up = omega (arith, ints, l, up, e)
+
+    same : (j : ℕ) → r ≡ neg_ℤ (pos j) → i ≡ j
+    same j is = omega (arith, ints, e, is)
+
+pub step_other : (d : RootDatum) (r : ℤ) (a : ℕ) (before after : List ℤ) → r <ℤ neg_ℤ (pos (rank d.base)) → IsWeylStep d (X r a) before after
+step_other d r a before after low = (λ up. absurd (above (rank d.base) up low), λ i s is. absurd (past i (rank d.base) s.1 is low))
+  where
+    above : (m : ℕ) → pos 0 <ℤ r → r <ℤ neg_ℤ (pos m) → ⊥
+    above m up l = omega (arith, ints, up, l)
+
+    past : (i m : ℕ) → i ≤ m → r ≡ neg_ℤ (pos i) → r <ℤ neg_ℤ (pos m) → ⊥
+    past i m h is l = omega (arith, ints, h, is, l)
+
+-- the same of the answer of a call
+pub positive_ok : {E : Type 0} (d : RootDatum) (r : ℤ) (a : ℕ) (before : List ℤ) (x : Result FormData E) → pos 0 <ℤ r → IfOk x (λ y. y.weyl ≡ before) → IfOk x (λ y. IsWeylStep d (X r a) before y.weyl)
+positive_ok d r a before x up h = IfOk-weaker x (λ (y : FormData). y.weyl ≡ before) (λ (y : FormData). IsWeylStep d (X r a) before y.weyl) (λ y e. step_positive d r a before y.weyl up e) h
+
+pub opposite_ok : {E : Type 0} (d : RootDatum) (r : ℤ) (a i : ℕ) (before : List ℤ) (x : Result FormData E) → IfOk x (λ y. IsSameOrTurned d before i y.weyl) → IsSimpleIndex d.base i → r ≡ neg_ℤ (pos i)
+    → IfOk x (λ y. IsWeylStep d (X r a) before y.weyl)
+opposite_ok d r a i before x h s e =
+    IfOk-weaker x (λ (y : FormData). IsSameOrTurned d before i y.weyl) (λ (y : FormData). IsWeylStep d (X r a) before y.weyl) (λ y t. step_opposite d r a i before y.weyl s e t) h
+
+pub other_ok : {E : Type 0} (d : RootDatum) (r : ℤ) (a : ℕ) (before : List ℤ) (x : Result FormData E) → r <ℤ neg_ℤ (pos (rank d.base)) → IfOk x (λ y. IsWeylStep d (X r a) before y.weyl)
+other_ok d r a before (Ok y) low = step_other d r a before y.weyl low
+other_ok d r a before (Err e) low = tt
+
+pub opposite_times : {E : Type 0} (f : SignedFrame) (r : ℤ) (a i : ℕ) (x : FormData) (y : Result FormData E) → IfOk y (IsTimes f x (X (neg_ℤ (pos i)) a ∷ [])) → r ≡ neg_ℤ (pos i) → IfOk y (IsTimes f x (X r a ∷ []))
+opposite_times f r a i x y h e = subst (λ k. IfOk y (IsTimes f x (X k a ∷ []))) (sym e) h
 
 -- n_i conjugates a letter
 pub conjugated : (f : SignedFrame) → IsLawfulSigned f → (i : ℕ) (a b : Letter) → JoinedInGroup f (a ∷ N i ∷ []) (N i ∷ b ∷ []) → JoinedInGroup f (N i ∷ b ∷ Ninv i ∷ []) (a ∷ [])
