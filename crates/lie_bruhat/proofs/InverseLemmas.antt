@@ -1,10 +1,11 @@
 -- Products and inverses of forms: reversed words of joined words, of lists, and of torus vectors and words of the n_i.
-use Rattle.std.proofs.Common.{◌≡◌, ℕ, ℤ, pos, List, [], ◌∷◌, ◌++◌, map, length, reverse, refl, sym, ap, ap₂, subst, ◌∙◌, append_assoc, Result, Ok, Err, IfOk}
+use Rattle.std.proofs.Common.{◌≡◌, ℕ, ◌+◌, ◌<◌, ℤ, pos, List, [], ◌∷◌, ◌++◌, map, length, get_or, take, reverse, refl, sym, ap, ap₂, subst, ◌∙◌, append_assoc, Result, Ok, Err, IfOk}
 use Rattle.std.specs.Prelude.{nat_lt}
-use Rattle.std.proofs.lemmas.List.{append-nil, map-append, reverse-append, length-reverse}
+use Rattle.std.proofs.lemmas.List.{append-nil, map-append, reverse-append, length-reverse, take_more}
 use Rattle.lie_ring.specs.Rings.{RingOn}
 use Rattle.lie_field.specs.FieldRing.{field_ring, field_is_ring}
 use Rattle.lie_field.specs.FiniteField.{FiniteField}
+use Rattle.lie_datum.specs.RootDatum.{IsSimpleIndex}
 use Rattle.lie_datum.specs.RootList.{RootDatum, IsLoaded}
 use Rattle.lie_weyl.specs.WeylElement.{Spells}
 use Rattle.lie_weyl.proofs.LengthLemmas.{length_reverse}
@@ -12,6 +13,8 @@ use Rattle.lie_weyl.proofs.Linearity.{spelled_same}
 use Rattle.lie_weyl.proofs.Words.{is_word}
 use Rattle.lie_letters.specs.declared.letter.Letter.{Letter}
 use Rattle.lie_letters.specs.declared.letter.Letter.TheVariants.{X, H, N, Ninv}
+use Rattle.lie_letters.specs.Entries.{AreUnits, inverses, reflected as reflected_torus}
+use Rattle.lie_letters.specs.Frames.{dim}
 use Rattle.lie_letters.specs.GroupSpelled.{JoinedInGroup}
 use Rattle.lie_letters.specs.PositiveTerms.{positive_terms}
 use Rattle.lie_letters.specs.RingLetters.{RingLetter, full_word, inverse_word}
@@ -25,6 +28,7 @@ use Rattle.lie_unip.proofs.WordLemmas.{inverse_lawful}
 use Rattle.lie_bruhat.specs.Products.{IsTimes, IsProduct, IsInverse, IsSquare}
 use Rattle.lie_bruhat.proofs.FormLemmas.{listed}
 use Rattle.lie_bruhat.proofs.ListLemmas.{letters, full_joined}
+use Rattle.lie_bruhat.proofs.MovingLemmas.{reflected_joined}
 use Rattle.lie_bruhat.proofs.PassLemmas.{IsWordOver-both, first_over, joined_behind, joined_before}
 use Rattle.lie_bruhat.proofs.RulesHold.{reversed_cancels, shortest_words_joined}
 use Rattle.lie_bruhat.proofs.TimesLemmas.{form_over, form_joined, times_then}
@@ -97,6 +101,12 @@ module _ (f : SignedFrame) (lawful : IsLawfulSigned f) where
       (reversed_joined (root_letters (full_word u)) (letters u) (full_joined f lawful u entries)))
 
   -- ---- the torus vector
+  -- s_i takes torus vectors of the frame to such
+  pub reflected_over : (i : ℕ) (t r : List ℕ) → IsSimpleIndex d.base i → AreUnits F t → dim (unsigned f) ≡ length t → r ≡ reflected_torus F d.base i t → (dim (unsigned f) ≡ length r) × AreUnits F r
+  reflected_over i t r s units long is =
+      let over = JoinedInGroup-over f (N i ∷ H t ∷ []) (H (reflected_torus F d.base i t) ∷ N i ∷ []) (reflected_joined f lawful i t s units long) in
+      subst (λ q. (dim (unsigned f) ≡ length q) × AreUnits F q) (sym is) over.0
+
   -- one letter n_i more
   pub inverse_more : (g : List Letter) (i : ℕ) (s t r new : List ℕ) (w : List Letter) → JoinedInGroup f (reversed F g) (H t ∷ w) → IsSquare f i s → JoinedInGroup f (N i ∷ H t ∷ []) (H r ∷ N i ∷ [])
       → JoinedInGroup f (H s ∷ H r ∷ []) (H new ∷ []) → JoinedInGroup f (reversed F (g ++ N i ∷ [])) (H new ∷ N i ∷ w)
@@ -114,6 +124,23 @@ module _ (f : SignedFrame) (lawful : IsLawfulSigned f) where
       (JoinedInGroup-trans f (H s ∷ N i ∷ H t ∷ w) (H s ∷ H r ∷ N i ∷ w) (H new ∷ N i ∷ w)
       (joined_behind f (H s ∷ []) (N i ∷ H t ∷ w) (H r ∷ N i ∷ w) (own.0, tt) (joined_before f w (N i ∷ H t ∷ []) (H r ∷ N i ∷ []) over.1 passes))
       (joined_before f (N i ∷ w) (H s ∷ H r ∷ []) (H new ∷ []) (behind.1.0, over.1) product))))
+
+  -- one letter of a word more
+  pub inverse_step : (h word : List ℕ) (k i : ℕ) (s t r new : List ℕ) → k < length word → i ≡ get_or word k 0 → JoinedInGroup f (reversed F (H h ∷ map N (take k word))) (H t ∷ map N (reverse (take k word)))
+      → IsSquare f i s → JoinedInGroup f (N i ∷ H t ∷ []) (H r ∷ N i ∷ []) → JoinedInGroup f (H s ∷ H r ∷ []) (H new ∷ [])
+      → JoinedInGroup f (reversed F (H h ∷ map N (take (k + 1) word))) (H new ∷ map N (reverse (take (k + 1) word)))
+  inverse_step h word k i s t r new inside is known square passes product =
+      let p = take k word in
+      let more : p ++ i ∷ [] ≡ take (k + 1) word = ap (λ j. p ++ j ∷ []) is ∙ sym (take_more word k 0 inside) in
+      let left : (H h ∷ map N p) ++ N i ∷ [] ≡ H h ∷ map N (take (k + 1) word) = ap (λ v. H h ∷ v) (sym (map-append N p (i ∷ [])) ∙ ap (map N) more) in
+      let right : H new ∷ N i ∷ map N (reverse p) ≡ H new ∷ map N (reverse (take (k + 1) word)) = ap (λ v. H new ∷ map N v) (sym (reverse-append p (i ∷ [])) ∙ ap reverse more) in
+      subst (λ u. JoinedInGroup f (reversed F u) (H new ∷ map N (reverse (take (k + 1) word)))) left
+      (subst (λ v. JoinedInGroup f (reversed F ((H h ∷ map N p) ++ N i ∷ [])) v) right
+      (inverse_more (H h ∷ map N p) i s t r new (map N (reverse p)) known square passes product))
+
+  -- no letter of the word
+  pub inverse_none : (h t : List ℕ) → dim (unsigned f) ≡ length h → AreUnits F h → t ≡ inverses F h → JoinedInGroup f (reversed F (H h ∷ [])) (H t ∷ [])
+  inverse_none h t long units is = subst (λ s. JoinedInGroup f (H (inverses F h) ∷ []) (H s ∷ [])) (sym is) (JoinedInGroup-refl f (H (inverses F h) ∷ []) (reversed_over (H h ∷ []) ((long, units), tt)))
 
   -- ---- inverses
   pub inverse_stands : (a : FormData) (p : List ℕ) (u v t : List ℕ) (w : List ℤ) (z : List Letter) → IsShortest d a.weyl p → Spells d (reverse p) w → JoinedInGroup f (letters u) (reversed F (letters a.second))
@@ -146,22 +173,30 @@ module _ (f : SignedFrame) (lawful : IsLawfulSigned f) where
   inverse_is a p u v t w (Err e) short spells first second middle form joined = tt
 
   -- ---- products
-  pub product_is : {E : Type 0} (a b x y z : FormData) (p : List ℕ) (r : Result FormData E) → IsShortest d b.weyl p → IsTimes f a (letters b.first) x → IsTimes f x (H b.torus ∷ []) y
-      → IsTimes f y (map N p) z → IfOk r (IsTimes f z (letters b.second)) → IfOk r (IsProduct f a b)
-  product_is a b x y z p (Err e) short first second third last = tt
-  product_is a b x y z p (Ok n) short first second third last =
-      let L = letters in
-      let all =
-      times_then f loaded a x n (L b.first) (H b.torus ∷ (map N p ++ L b.second)) first
-      (times_then f loaded x y n (H b.torus ∷ []) (map N p ++ L b.second) second (times_then f loaded y z n (map N p) (L b.second) third last)) in
+  -- the first two lists of words, and one n_i more
+  pub product_none : (a b x y : FormData) → IsTimes f a (letters b.first) x → IsTimes f x (H b.torus ∷ []) y → IsTimes f a (letters b.first ++ H b.torus ∷ []) y
+  product_none a b x y first second = times_then f loaded a x y (letters b.first) (H b.torus ∷ []) first second
+
+  pub product_step : (a b y z : FormData) (word : List ℕ) (k i : ℕ) → k < length word → i ≡ get_or word k 0 → IsTimes f a (letters b.first ++ H b.torus ∷ map N (take k word)) y → IsTimes f y (N i ∷ []) z
+      → IsTimes f a (letters b.first ++ H b.torus ∷ map N (take (k + 1) word)) z
+  product_step a b y z word k i inside is known last =
+      let p = take k word in
+      let u = letters b.first in
+      let more : p ++ i ∷ [] ≡ take (k + 1) word = ap (λ j. p ++ j ∷ []) is ∙ sym (take_more word k 0 inside) in
+      let whole : (u ++ H b.torus ∷ map N p) ++ N i ∷ [] ≡ u ++ H b.torus ∷ map N (take (k + 1) word) =
+      append_assoc u (H b.torus ∷ map N p) (N i ∷ []) ∙ ap (λ v. u ++ H b.torus ∷ v) (sym (map-append N p (i ∷ [])) ∙ ap (map N) more) in
+      subst (λ v. IsTimes f a v z) whole (times_then f loaded a y z (u ++ H b.torus ∷ map N p) (N i ∷ []) known last)
+
+  pub product_is : {E : Type 0} (a b z : FormData) (p : List ℕ) (r : Result FormData E) → IsShortest d b.weyl p → IsTimes f a (letters b.first ++ H b.torus ∷ map N p) z
+      → IfOk r (IsTimes f z (letters b.second)) → IfOk r (IsProduct f a b)
+  product_is a b z p (Err e) short known last = tt
+  product_is a b z p (Ok n) short known last =
+      let u = letters b.first in
+      let v = letters b.second in
+      let all : IsTimes f a (form_word b p) n = subst (λ w. IsTimes f a w n) (append_assoc u (H b.torus ∷ map N p) v) (times_then f loaded a z n (u ++ H b.torus ∷ map N p) v known last) in
       record {
         form = last.form;
-        times = λ v w known other.
+        times = λ w s of_a of_b.
             (let whole = form_word b p in
-            let over = JoinedInGroup-over f whole w (other.joined p short) in
-            form_joined f loaded n (v ++ whole) (v ++ w)
-            (joined_behind f v whole w (over_of a v known) (other.joined p short)) (all.times v known));
+            form_joined f loaded n (w ++ whole) (w ++ s) (joined_behind f w whole s (form_over f loaded a w of_a) (of_b.joined p short)) (all.times w of_a));
       }
-    where
-      over_of : (a : FormData) (v : List Letter) → IsFormOf f a v → IsWordOver (unsigned f) v
-      over_of a v known = form_over f loaded a v known

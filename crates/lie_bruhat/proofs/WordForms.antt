@@ -1,9 +1,10 @@
 -- The form of the empty word, and letters of words.
-use Rattle.std.proofs.Common.{◌≡◌, ℕ, zero, suc, ◌<◌, List, [], ◌∷◌, ◌++◌, map, length, get_or, replicate, filter, refl, sym, ap, subst, ◌∙◌, arith}
-use Rattle.std.specs.List.{AllByRecursion}
+use Rattle.std.proofs.Common.{◌≡◌, ℕ, ◌+◌, ◌<◌, List, [], ◌∷◌, ◌++◌, map, take, length, get_or, replicate, filter, refl, sym, ap, subst, ◌∙◌, arith}
+use Rattle.std.proofs.lemmas.List.{take_more}
 use Rattle.lie_weyl.specs.WeylElement.{Spells}
 use Rattle.lie_weyl.proofs.LengthLemmas.{length_same, length_empty}
 use Rattle.lie_weyl.proofs.Linearity.{spelled_same}
+use Rattle.lie_letters.specs.declared.letter.Letter.{Letter}
 use Rattle.lie_letters.specs.declared.letter.Letter.TheVariants.{H, N}
 use Rattle.lie_letters.specs.Entries.{ones}
 use Rattle.lie_letters.specs.Frames.{dim}
@@ -13,6 +14,7 @@ use Rattle.lie_letters.specs.SignedFrames.{SignedFrame, unsigned, IsLawfulSigned
 use Rattle.lie_letters.specs.Spelled.{root_letters}
 use Rattle.lie_letters.proofs.CallerLemmas.{JoinedInGroup-plain, ones_joined}
 use Rattle.lie_unip.specs.Forms.{FormData, IsForm, IsFormOf, form_word, is_nonzero}
+use Rattle.lie_bruhat.specs.Products.{IsTimes}
 use Rattle.lie_bruhat.proofs.ListLemmas.{letters}
 use Rattle.lie_bruhat.proofs.TurnedLemmas.{zero_letters}
 
@@ -37,8 +39,8 @@ one_form_of f lawful x form first torus weyl second = record {
       subst (λ w. JoinedInGroup f w []) (sym word) (JoinedInGroup-plain f (H (ones (dim (unsigned f))) ∷ []) [] (ones_joined (unsigned f))));
 }
 
--- what holds of each element of a list holds at each place
-pub at_each : {A : Type 0} (P : A → Type 0) (xs : List A) (k : ℕ) (z : A) → AllByRecursion P xs → k < length xs → P (get_or xs k z)
-at_each P [] k z h l = absurd (omega (arith, l))
-at_each P (x ∷ xs) zero z h l = h.0
-at_each P (x ∷ xs) (suc k) z h l = at_each P xs k z h.1 (omega (arith, l))
+-- one letter more
+pub letter_more : (f : SignedFrame) (x y : FormData) (w : List Letter) (k : ℕ) (a : Letter) → k < length w → a ≡ get_or w k a → IsTimes f x (a ∷ []) y → IsFormOf f x (take k w) → IsFormOf f y (take (k + 1) w)
+letter_more f x y w k a inside is times known =
+    let more : take (k + 1) w ≡ take k w ++ a ∷ [] = take_more w k a inside ∙ ap (λ b. take k w ++ b ∷ []) (sym is) in
+    subst (IsFormOf f y) (sym more) (times.times (take k w) known)

@@ -16,7 +16,7 @@ mod negative;
 mod product;
 mod turned;
 
-pub use bruhat::{form, times_letter};
+pub use bruhat::{form, inv, mul, times_letter};
 pub use laws::{
     every_word_has_form, inverse_weyl_letters, opposite_root_letters, reversed_cancels,
     shortest_words_joined, weyl_letters_pass_torus, weyl_letters_squared,
