@@ -86,15 +86,15 @@ module _ (n : ℕ) (M : Matrix ℤ) (step : IsStepping n M) where
 below_itself : (n : ℕ) (A : Matrix ℤ) → IsBelow n A A
 below_itself n A i j a b = omega arith
 
-module _ (n : ℕ) (few : n ≤ 300) (A B P Q : Matrix ℤ) (sA : IsOfSize n A) (sB : IsOfSize n B) (sP : IsOfSize n P) (sQ : IsOfSize n Q) (nA : IsNatural n A) (nB : IsNatural n B) (bA : IsBoundedBy n 2 A) (bB : IsBoundedBy n 2 B) (PA : IsBelow n P A) (QB : IsBelow n Q B) where
+module _ (n : ℕ) (few : n ≤ 1024) (A B P Q : Matrix ℤ) (sA : IsOfSize n A) (sB : IsOfSize n B) (sP : IsOfSize n P) (sQ : IsOfSize n Q) (nA : IsNatural n A) (nB : IsNatural n B) (bA : IsBoundedBy n 2 A) (bB : IsBoundedBy n 2 B) (PA : IsBelow n P A) (QB : IsBelow n Q B) where
   -- the inner product is small
-  pub inner_small : (i j : ℕ) → i < n → j < n → product_size integers Q P i j ≤ 1200
+  pub inner_small : (i j : ℕ) → i < n → j < n → product_size integers Q P i j ≤ 4096
   inner_small i j a b =
       let m = product_size-mono n Q P B A sQ sB QB PA i j a b in
       let h = bounded-product n 2 2 B A sB bB bA i j a b in
       omega (arith, m, h, few)
 
-  inner_bounded : IsBoundedBy n 1200 (product integers B A)
+  inner_bounded : IsBoundedBy n 4096 (product integers B A)
   inner_bounded i j a b =
       let h = bounded-product n 2 2 B A sB bB bA i j a b in
       let e = natural_size n B A sB sA nB nA i j a b in
@@ -104,10 +104,10 @@ module _ (n : ℕ) (few : n ≤ 300) (A B P Q : Matrix ℤ) (sA : IsOfSize n A) 
   inner_below = below-product n Q P B A sQ sP sB sA nB nA QB PA
 
   -- and so is the outer one
-  pub outer_small : (i j : ℕ) → i < n → j < n → product_size integers P (product integers Q P) i j ≤ 720000
+  pub outer_small : (i j : ℕ) → i < n → j < n → product_size integers P (product integers Q P) i j ≤ 8388608
   outer_small i j a b =
       let m = product_size-mono n P (product integers Q P) A (product integers B A) sP sA PA inner_below i j a b in
-      let h = bounded-product n 2 1200 A (product integers B A) sA bA inner_bounded i j a b in
+      let h = bounded-product n 2 4096 A (product integers B A) sA bA inner_bounded i j a b in
       omega (arith, m, h, few)
 
   pub inner_narrow : ¬ IsWideProduct integers Q P
@@ -176,7 +176,7 @@ module _ (n : ℕ) (w : Factors) (f : AreFactors n w) (M : Matrix ℤ) (size : I
         omega (arith, m, e, s)))
 
 -- ---- the factors of steps
-module _ (n : ℕ) (few : n ≤ 300) (M L : Matrix ℤ) (up : IsStepping n M) (down : IsStepping n L) where
+module _ (n : ℕ) (few : n ≤ 1024) (M L : Matrix ℤ) (up : IsStepping n M) (down : IsStepping n L) where
   abbrev A : Matrix ℤ
   A = one_plus (pos 1) M
 
@@ -219,7 +219,7 @@ IsSign c = (c ≡ pos 1) ⊎ (c ≡ negsuc 0)
 pub unit_below : (n : ℕ) (M : Matrix ℤ) → IsStepping n M → (c : ℤ) → IsSign c → IsBelow n (one_plus c M) (one_plus (pos 1) M)
 unit_below n M step c u = ⊎_elim (λ e. subst (λ t. IsBelow n (one_plus t M) (one_plus (pos 1) M)) (sym e) (below_itself n (one_plus (pos 1) M))) (λ e. subst (λ t. IsBelow n (one_plus t M) (one_plus (pos 1) M)) (sym e) (one_less_below n M step)) u
 
-module _ (n : ℕ) (few : n ≤ 300) (M L : Matrix ℤ) (up : IsStepping n M) (down : IsStepping n L) (p q : ℤ) (up_unit : IsSign p) (down_unit : IsSign q) (P Q : Matrix ℤ) (isP : P ≡ one_plus p M) (isQ : Q ≡ one_plus q L) where
+module _ (n : ℕ) (few : n ≤ 1024) (M L : Matrix ℤ) (up : IsStepping n M) (down : IsStepping n L) (p q : ℤ) (up_unit : IsSign p) (down_unit : IsSign q) (P Q : Matrix ℤ) (isP : P ≡ one_plus p M) (isQ : Q ≡ one_plus q L) where
   pub steps_inner : ¬ IsWideProduct integers Q P
   steps_inner = subst (λ t. ¬ IsWideProduct integers t P) (sym isQ) (subst (λ t. ¬ IsWideProduct integers (one_plus q L) t) (sym isP)
       (inner_narrow n few (one_plus (pos 1) M) (one_plus (pos 1) L) (one_plus p M) (one_plus q L) (one_plus-size n M up (pos 1)) (one_plus-size n L down (pos 1)) (one_plus-size n M up p) (one_plus-size n L down q)
@@ -263,7 +263,7 @@ work_zero n A s = ap (λ t. product integers (product integers A t) A) (absolute
 pub conjugate_zero : (n : ℕ) (A B : Matrix ℤ) (c : ℤ) → IsOfSize n A → IsOfSize n B → scaled integers c (product integers (product integers A (zero_matrix (pos 0) n n)) B) ≡ zero_matrix (pos 0) n n
 conjugate_zero n A B c s t = ap (λ u. scaled integers c (product integers u B)) (right_zero n A s) ∙ ap (scaled integers c) (left_zero n B t) ∙ scaled_zero n c
 
-zero_square : (n : ℕ) → IsSquare n (zero_matrix (pos 0) n n)
+pub zero_square : (n : ℕ) → IsSquare n (zero_matrix (pos 0) n n)
 zero_square n = record {
   height = refl;
   width = refl;

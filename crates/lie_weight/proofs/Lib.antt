@@ -22,5 +22,11 @@ pub mod CompletionLemmas
 pub mod OrbitLemmas
 pub mod LoweringLemmas
 pub mod UniqueLemmas
+pub mod AlongLemmas
 pub mod OneOrbitAnswer
+pub mod ListingTests
+pub mod CarrierOrbits
+pub mod ModuleSums
+pub mod CarrierLemmas
+pub mod OneCarrier
 mod WorkedExamples

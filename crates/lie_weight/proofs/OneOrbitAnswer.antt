@@ -1,11 +1,7 @@
 -- A weight has one answer of `Module::orbit`, want of memory aside.
 use Rattle.std.proofs.Common.{◌≡◌, ◌≢◌, ℕ, suc, ◌<◌, ◌≤◌, ℤ, List, length, refl, sym, ap, subst, ◌∙◌, arith, ◌⊎◌, inl, inr, ⊎_elim, Result, Ok, Err}
 use Rattle.lie_datum.specs.Vectors.{Vector}
-use Rattle.lie_datum.specs.Numbers.{place}
 use Rattle.lie_datum.specs.RootList.{RootDatum, IsNumber, IsLoaded}
-use Rattle.lie_datum.proofs.Entries.{within_or_past}
-use Rattle.lie_datum.proofs.NumberLemmas.{place_within}
-use Rattle.lie_datum.proofs.SignedRoots.{same_place}
 use Rattle.lie_const.specs.Modules.{Module}
 use Rattle.lie_const.specs.Signs.{Signs}
 use Rattle.lie_weight.specs.declared.faults.ModuleFault.{ModuleFault}
@@ -14,10 +10,10 @@ use Rattle.lie_orbit.specs.Weights.{IsMinuscule, HasLargePairing, IsFirstLargePa
 use Rattle.lie_orbit.proofs.WeightLemmas.{one_first}
 use Rattle.lie_orbit.specs.Orbits.{IsOrbit, IsOrbitSize}
 use Rattle.lie_orbit.proofs.OneOrbit.{order, one_orbit, most, one_size}
-use Rattle.lie_weight.specs.Conjugation.{absolute_height, IsCompletedBelow, IsHuge, Precedes}
-use Rattle.lie_weight.specs.OrbitModules.{HasSteps, IsOrbitModule}
-use Rattle.lie_weight.specs.OrbitFaults.{IsHeavyAt, AreLight, IsFirstHeavyWeight, IsFirstHugeConjugate, LoadsOrbit, LoadsOrbitOneWay}
-use Rattle.lie_weight.proofs.UniqueLemmas.{powers_same, huge_same, one_module}
+use Rattle.lie_weight.specs.Conjugation.{IsHuge}
+use Rattle.lie_weight.specs.OrbitModules.{IsOrbitModule}
+use Rattle.lie_weight.specs.OrbitFaults.{IsHeavyAt, AreLight, IsFirstHeavyWeight, IsFirstHugeAlong, IsFirstHugeConjugate, LoadsOrbit, LoadsOrbitOneWay}
+use Rattle.lie_weight.proofs.AlongLemmas.{not_huge, one_huge, one_made}
 
 -- ---- the first root with a large pairing
 one_large : (d : RootDatum) (w : Vector) (r s : ℤ) → IsFirstLargePairing d w r → IsFirstLargePairing d w s → r ≡ s
@@ -37,47 +33,17 @@ one_heavy_weight d w a b g h =
     order a b (λ l. h.before a l (subst (λ us. IsHeavyAt us a) e g.heavy)) (λ l. g.before b l (subst (λ us. IsHeavyAt us b) (sym e) h.heavy))
 
 -- ---- the first huge conjugate
-completed_less : (d : RootDatum) (eta : Signs) (v : Module) (h k : ℕ) → k ≤ h → IsCompletedBelow d eta v h → IsCompletedBelow d eta v k
-completed_less d eta v h k l c r low = c r (omega (arith, low, l))
-
 module _ (d : RootDatum) (loaded : IsLoaded d) (eta : Signs) (w : Vector) where
-  -- a place that is huge in one is huge in the other, up to the height at which both are completed
-  carried : (r : ℤ) (k : ℕ) (a b : Module) → IsOrbit d w a.weights → IsOrbit d w b.weights → HasSteps d a → HasSteps d b → IsCompletedBelow d eta a (absolute_height d r) → IsCompletedBelow d eta b (absolute_height d r) → IsHuge d a r k → IsHuge d b r k
-  carried r k a b oa ob sa sb ca cb x = huge_same d loaded a b (one_orbit d w b.weights a.weights ob oa) sa sb eta (absolute_height d r) ca cb r k (omega arith) x
-
   huge_small : (r : ℤ) (k : ℕ) (v : Module) → IsFirstHugeConjugate d eta w r k → IsOrbitModule d eta w v → ((q : ℤ) (j : ℕ) → ¬ IsHuge d v q j) → ⊥
-  huge_small r k v h o small = small r k (carried r k h.partial v h.weights o.weights h.steps o.steps h.completed (λ q low. o.completed q) h.first.huge)
+  huge_small r k v h o small = not_huge d loaded eta h.weights r k v h.along (one_orbit d w v.weights h.weights o.weights h.orbit) o.steps o.completed small
 
-  -- of two places one stands before the other, or they are the same
-  trichotomy : (q r : ℤ) (j k : ℕ) → IsNumber d q → IsNumber d r → Precedes d q j r k ⊎ (Precedes d r k q j ⊎ ((q ≡ r) × (j ≡ k)))
-  trichotomy q r j k n m =
-      ⊎_elim (λ l. inl (inl l)) (λ l. ⊎_elim (λ l'. inr (inl (inl l'))) (λ l'.
-      (let e : absolute_height d q ≡ absolute_height d r = omega (arith, l, l') in
-      ⊎_elim (λ p. inl (inr (e, inl p))) (λ p. ⊎_elim (λ p'. inr (inl (inr (sym e, inl p')))) (λ p'.
-      (let f : place (length d.positive) q ≡ place (length d.positive) r = omega (arith, p, p') in
-      let s = same_place (length d.positive) q r (place_within d q n) (place_within d r m) f in
-      ⊎_elim (λ x. inl (inr (e, inr (s, x)))) (λ x. ⊎_elim (λ y. inr (inl (inr (sym e, inr (sym s, y))))) (λ y. inr (inr (s, omega (arith, x, y)))) (within_or_past k j)) (within_or_past j k)))
-      (within_or_past (place (length d.positive) r) (place (length d.positive) q))) (within_or_past (place (length d.positive) q) (place (length d.positive) r))))
-      (within_or_past (absolute_height d r) (absolute_height d q))) (within_or_past (absolute_height d q) (absolute_height d r))
-
-  precedes_low : (q r : ℤ) (j k : ℕ) → Precedes d q j r k → absolute_height d q ≤ absolute_height d r
-  precedes_low q r j k p = ⊎_elim (λ l. omega (arith, l)) (λ l. let e = l.0 in omega (arith, e)) p
-
-  not_before : (q r : ℤ) (j k : ℕ) → IsFirstHugeConjugate d eta w q j → IsFirstHugeConjugate d eta w r k → ¬ Precedes d q j r k
-  not_before q r j k a b p =
-      let low = precedes_low q r j k p in
-      b.first.before q j a.first.huge.lowering.from p
-      (carried q j a.partial b.partial a.weights b.weights a.steps b.steps a.completed (completed_less d eta b.partial (absolute_height d r) (absolute_height d q) low b.completed) a.first.huge)
-
-  one_huge : (q r : ℤ) (j k : ℕ) → IsFirstHugeConjugate d eta w q j → IsFirstHugeConjugate d eta w r k → (q ≡ r) × (j ≡ k)
-  one_huge q r j k a b =
-      ⊎_elim (λ p. absurd (not_before q r j k a b p)) (λ p. ⊎_elim (λ l. absurd (not_before r q k j b a l)) (λ e. e) p) (trichotomy q r j k a.first.huge.lowering.from b.first.huge.lowering.from)
+  one_huge_orbit : (q r : ℤ) (j k : ℕ) → IsFirstHugeConjugate d eta w q j → IsFirstHugeConjugate d eta w r k → (q ≡ r) × (j ≡ k)
+  one_huge_orbit q r j k a b =
+      one_huge d loaded eta b.weights q r j k (subst (λ ws. IsFirstHugeAlong d eta ws q j) (one_orbit d w a.weights b.weights a.orbit b.orbit) a.along) b.along
 
   -- ---- one module
-  one_orbit_module : (u v : Module) → IsOrbitModule d eta w u → IsOrbitModule d eta w v → u ≡ v
-  one_orbit_module u v a b =
-      let same = one_orbit d w u.weights v.weights a.weights b.weights in
-      one_module d v u b.steps.shape a.steps.shape same (λ r k n one. powers_same d loaded v u same b.steps a.steps eta (suc (absolute_height d r)) (λ q low. b.completed q) (λ q low. a.completed q) r k n (omega arith) one)
+  pub one_orbit_module : (u v : Module) → IsOrbitModule d eta w u → IsOrbitModule d eta w v → u ≡ v
+  one_orbit_module u v a b = one_made d loaded eta v.weights u v (one_orbit d w u.weights v.weights a.weights b.weights) refl a.steps b.steps a.completed b.completed
 
   -- ---- one answer
   no_large_pairing : (r : ℤ) → IsFirstLargePairing d w r → IsMinuscule d w → ⊥
@@ -104,17 +70,17 @@ module _ (d : RootDatum) (loaded : IsLoaded d) (eta : Signs) (w : Vector) where
   two (Err (Wide p)) (Err (NotMinuscule s)) a b n m = absurd (no_large_pairing s b a.0)
   two (Err (Wide p)) (Err (Wide q)) a b n m = ap (λ (t : ℕ). Err (Wide t)) (one_size d w p q a.2 b.2)
   two (Err (Wide p)) (Err (Heavy q)) a b n m = absurd (not_wide d w p b.1.weights a.1 a.2 b.1.orbit b.1.few)
-  two (Err (Wide p)) (Err (Huge s k)) a b n m = absurd (not_wide d w p b.1.partial.weights a.1 a.2 b.1.weights b.1.light.few)
+  two (Err (Wide p)) (Err (Huge s k)) a b n m = absurd (not_wide d w p b.1.weights a.1 a.2 b.1.orbit b.1.light.few)
   two (Err (Heavy p)) (Ok v) a b n m = absurd (not_light d w p v.weights a.1 b.1.weights b.2)
   two (Err (Heavy p)) (Err (NotMinuscule s)) a b n m = absurd (no_large_pairing s b a.0)
   two (Err (Heavy p)) (Err (Wide q)) a b n m = absurd (not_wide d w q a.1.weights b.1 b.2 a.1.orbit a.1.few)
   two (Err (Heavy p)) (Err (Heavy q)) a b n m = ap (λ (t : ℕ). Err (Heavy t)) (one_heavy_weight d w p q a.1 b.1)
-  two (Err (Heavy p)) (Err (Huge s k)) a b n m = absurd (not_light d w p b.1.partial.weights a.1 b.1.weights b.1.light)
+  two (Err (Heavy p)) (Err (Huge s k)) a b n m = absurd (not_light d w p b.1.weights a.1 b.1.orbit b.1.light)
   two (Err (Huge r k)) (Ok v) a b n m = absurd (huge_small r k v a.1 b.1 b.3)
   two (Err (Huge r k)) (Err (NotMinuscule s)) a b n m = absurd (no_large_pairing s b a.0)
-  two (Err (Huge r k)) (Err (Wide q)) a b n m = absurd (not_wide d w q a.1.partial.weights b.1 b.2 a.1.weights a.1.light.few)
-  two (Err (Huge r k)) (Err (Heavy q)) a b n m = absurd (not_light d w q a.1.partial.weights b.1 a.1.weights a.1.light)
-  two (Err (Huge r k)) (Err (Huge s j)) a b n m = let e = one_huge r s k j a.1 b.1 in ap (λ (t : ℤ). Err (Huge t k)) e.0 ∙ ap (λ (t : ℕ). Err (Huge s t)) e.1
+  two (Err (Huge r k)) (Err (Wide q)) a b n m = absurd (not_wide d w q a.1.weights b.1 b.2 a.1.orbit a.1.light.few)
+  two (Err (Huge r k)) (Err (Heavy q)) a b n m = absurd (not_light d w q a.1.weights b.1 a.1.orbit a.1.light)
+  two (Err (Huge r k)) (Err (Huge s j)) a b n m = let e = one_huge_orbit r s k j a.1 b.1 in ap (λ (t : ℤ). Err (Huge t k)) e.0 ∙ ap (λ (t : ℕ). Err (Huge s t)) e.1
 
 pub one_answer : LoadsOrbitOneWay
 one_answer d eta w x y loaded a b n m = two d loaded eta w x y a b n m

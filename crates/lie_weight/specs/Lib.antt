@@ -5,5 +5,9 @@ pub mod Laws
 pub mod Conjugation
 pub mod OrbitModules
 pub mod OrbitFaults
+pub mod Sums
+pub mod Carriers
 pub mod Factors
 pub mod Completion
+pub mod Along
+pub mod CarrierParts

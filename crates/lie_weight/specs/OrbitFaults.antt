@@ -36,14 +36,20 @@ pub record IsFirstHeavyWeight (d : RootDatum) (w : Vector) (a : ℕ) : Type 0 wh
   pub heavy : IsHeavyAt weights a
   pub before : (b : ℕ) → b < a → ¬ IsHeavyAt weights b
 
--- r and k are the first where the conjugates of the steps along the orbit are huge
-pub record IsFirstHugeConjugate (d : RootDatum) (eta : Signs) (w : Vector) (r : ℤ) (k : ℕ) : Type 0 where
+-- r and k are the first where the conjugates of the steps along these weights are huge
+pub record IsFirstHugeAlong (d : RootDatum) (eta : Signs) (ws : List Vector) (r : ℤ) (k : ℕ) : Type 0 where
   pub partial : Module
-  pub weights : IsOrbit d w partial.weights
-  pub light : AreLight partial.weights
+  pub weights : partial.weights ≡ ws
   pub steps : HasSteps d partial
   pub completed : IsCompletedBelow d eta partial (absolute_height d r)
   pub first : IsFirstHuge d partial r k
+
+-- r and k are the first where those along the orbit of w are huge, whose weights are few and light
+pub record IsFirstHugeConjugate (d : RootDatum) (eta : Signs) (w : Vector) (r : ℤ) (k : ℕ) : Type 0 where
+  pub weights : List Vector
+  pub orbit : IsOrbit d w weights
+  pub light : AreLight weights
+  pub along : IsFirstHugeAlong d eta weights r k
 
 -- the fault of a module whose orbit is not listed
 abbrev pub module_fault : OrbitFault → ModuleFault

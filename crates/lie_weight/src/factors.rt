@@ -56,7 +56,7 @@ pub(crate) fn step_factors(
     up: &Mat<Ints>,
     down: &Mat<Ints>,
 ) -> Result<Factors, AllocError>
-    requires few { up.now.height ≤ 300 }
+    requires few { up.now.height ≤ 1024 }
     requires up { IsStepping up.now.height up.now }
     requires down { IsStepping up.now.height down.now }
     ensures value { IfOk result (AreFactorsOf up.now down.now) }

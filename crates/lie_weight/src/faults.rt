@@ -1,6 +1,7 @@
 //! Why there is no module.
 
 ghost use Rattle.std.specs.Prelude.{◌≡◌};
+ghost use Rattle.lie_weight.specs.Along.{huge_place};
 ghost use Rattle.lie_weight.specs.declared.faults.ModuleFault.TheVariants.{NoMemory};
 
 use lie_datum::RootId;
@@ -25,6 +26,18 @@ pub enum ModuleFault {
     /// The first root and power whose conjugation could reach 2^126.
     #[error("the matrix of root {} and power {} could reach 2^126", .0.number(), .1)]
     Huge(RootId, u32),
+}
+
+impl ModuleFault {
+    /// The root and the power of `Huge`.
+    pub(crate) fn huge(self) -> Option<(RootId, u32)>
+        ensures { result ≡ huge_place self }
+    {
+        match self {
+            ModuleFault::Huge(r, k) => Some((r, k)),
+            _ => None,
+        }
+    }
 }
 
 impl From<AllocError> for ModuleFault {

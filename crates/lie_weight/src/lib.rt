@@ -4,23 +4,30 @@
 //! `specs/Modules.antt`. `Module::adjoint` makes the adjoint module of lie_const's `specs/Adjoint.antt`, and
 //! `Module::orbit` that of the orbit of a minuscule weight: `specs/OrbitModules.antt` has the steps of the simple roots,
 //! `specs/Conjugation.antt` the matrices of the other roots, and `specs/OrbitFaults.antt` when there is no module.
+//! `Module::carrier` makes the direct sum of the adjoint module and of modules of orbits: `specs/Sums.antt`,
+//! `specs/Carriers.antt`.
 //! `specs/Kept.antt` is how a module is kept. The crate stands on `lie_const`, `lie_mat`, `lie_ring`, `lie_orbit`,
 //! `lie_datum`, `lie_base` and `thiserror`.
 #![tactic(auto)]
 
 mod adjoint;
+mod along;
+mod carrier;
 mod completion;
 mod factors;
 mod faults;
+mod heavy;
 mod laws;
+mod listing;
 mod modules;
 mod orbit;
 mod powers;
 mod rules;
 mod stepped;
 mod steps;
+mod sums;
 
 pub use adjoint::place_in_basis;
 pub use faults::ModuleFault;
-pub use laws::{adjoint_is_small, one_orbit_answer};
+pub use laws::{adjoint_is_small, one_carrier_answer, one_orbit_answer};
 pub use modules::Module;

@@ -5,10 +5,9 @@ ghost use Rattle.lie_const.specs.Signs.{IsSignTable, eta_of};
 ghost use Rattle.lie_orbit.specs.Weights.{IsMinuscule};
 ghost use Rattle.lie_weight.specs.OrbitFaults.{LoadsOrbit};
 
-use crate::completion::complete;
+use crate::along::along;
 use crate::faults::ModuleFault;
 use crate::modules::Module;
-use crate::stepped::{all_factors, stepped};
 use lie_const::Signs;
 use lie_datum::{Datum, Vector};
 use lie_orbit::{first_large_pairing, orbit};
@@ -55,11 +54,6 @@ impl Module {
         if count > LIMIT {
             return Err(ModuleFault::Wide(count as u64));
         }
-        let mut space = stepped(alloc, datum, weights)?;
-        let factors = all_factors(alloc, datum, &space)?;
-        match complete(alloc, datum, signs, &factors, &mut space) {
-            Ok(()) => Ok(space),
-            Err(fault) => Err(fault),
-        }
+        along(alloc, datum, signs, weights)
     }
 }

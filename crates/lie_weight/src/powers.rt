@@ -21,7 +21,7 @@ impl Module {
         weights: Vec<Vector>,
     ) -> Result<Module, AllocError>
         requires positive { positive ≤ 120 }
-        requires few { length weights.items ≤ 300 }
+        requires few { length weights.items ≤ 1024 }
         ensures { IfOk result (λ v. v ≡ record { positive = positive; weights = weights.items; powers = replicate (2 * positive) [] }) }
     {
         let mut powers = Vec::new(alloc);

@@ -25,7 +25,7 @@ fn write_steps(
     requires number { IsNumber datum.now root }
     requires small { All (IsWithin 1000000) space.old.weights }
     requires some { 1 ≤ dimension space.old }
-    requires few { dimension space.old ≤ 300 }
+    requires few { dimension space.old ≤ 1024 }
     requires single { IsSingle datum.now space.old }
     ensures { IfOk result (λ _. WritesSteps datum.now space.old root space.new) }
 {
@@ -45,13 +45,13 @@ fn write_simple_steps(
     requires index { i < rank datum.now.base }
     requires small { All (IsWithin 1000000) space.old.weights }
     requires some { 1 ≤ dimension space.old }
-    requires few { dimension space.old ≤ 300 }
+    requires few { dimension space.old ≤ 1024 }
     requires stepped { IsStepped datum.now i space.old }
     ensures stepped { IfOk result (λ _. IsStepped datum.now (i + 1) space.new) }
     ensures weights { IfOk result (λ _. space.new.weights ≡ space.old.weights) }
 {
     datum.loaded();
-    let simple = RootId::at(i, datum.m());
+    let simple = datum.simple(i + 1);
     write_steps(alloc, datum, space, simple)?;
     write_steps(alloc, datum, space, simple.opposite())
 }
@@ -64,7 +64,7 @@ pub(crate) fn stepped(
 ) -> Result<Module, AllocError>
     requires small { All (IsWithin 1000000) weights.items }
     requires some { 1 ≤ length weights.items }
-    requires few { length weights.items ≤ 300 }
+    requires few { length weights.items ≤ 1024 }
     ensures stepped { IfOk result (IsStepped datum.now (rank datum.now.base)) }
     ensures weights { IfOk result (λ v. v.weights ≡ weights.items) }
 {
@@ -84,12 +84,12 @@ fn simple_factors(
 ) -> Result<Factors, AllocError>
     requires index { i < rank datum.now.base }
     requires small { All (IsWithin 1000000) space.now.weights }
-    requires few { dimension space.now ≤ 300 }
+    requires few { dimension space.now ≤ 1024 }
     requires stepped { IsStepped datum.now (rank datum.now.base) space.now }
     ensures { IfOk result (AreModuleFactors space.now (i + 1)) }
 {
     datum.loaded();
-    let simple = RootId::at(i, datum.m());
+    let simple = datum.simple(i + 1);
     let up = step_matrix(alloc, datum, space.weights(), simple)?;
     let down = step_matrix(alloc, datum, space.weights(), simple.opposite())?;
     step_factors(alloc, &up, &down)
@@ -102,7 +102,7 @@ pub(crate) fn all_factors(
     space: &Module,
 ) -> Result<Vec<Factors>, AllocError>
     requires small { All (IsWithin 1000000) space.now.weights }
-    requires few { dimension space.now ≤ 300 }
+    requires few { dimension space.now ≤ 1024 }
     requires stepped { IsStepped datum.now (rank datum.now.base) space.now }
     ensures { IfOk result (λ list. AreAllFactors datum.now space.now list.items) }
 {

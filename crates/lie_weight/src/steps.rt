@@ -83,7 +83,7 @@ pub(crate) fn step_matrix(
 ) -> Result<Mat<Ints>, AllocError>
     requires number { IsNumber datum.now root }
     requires small { All (IsWithin 1000000) weights.now }
-    requires few { length weights.now ≤ 300 }
+    requires few { length weights.now ≤ 1024 }
     ensures value { IfOk result (λ m. m ≡ step_matrix datum.now weights.now root) }
     ensures fit { IfOk result (AllFit integers) }
 {

@@ -4,29 +4,16 @@ use Rattle.lie_datum.specs.RootList.{IsNumber}
 use Rattle.lie_const.specs.Modules.{dimension}
 use Rattle.lie_weight.specs.OrbitModules.{step_matrix}
 use Rattle.lie_weight.specs.Factors.{IsStepping, AreFactors, AreFactorsOf, AreModuleFactors}
-use Rattle.lie_orbit.proofs.WeightLemmas.{simple_place, simple_some}
-use Rattle.lie_weight.proofs.StepLemmas.{place_simple, place_index, negative_some, step_stepping, step-size, module_factors, ok_both}
+use Rattle.lie_orbit.proofs.WeightLemmas.{simple_some}
+use Rattle.lie_weight.proofs.StepLemmas.{place_index, negative_some, step_stepping, step-size, module_factors, ok_both}
 use Rattle.lie_weight.proofs.stepped.simple_factors.Goals as goal
-use Rattle.lie_weight.proofs.stepped.simple_factors.Goals.{After-at-simple, After-opposite, In_ok-up, In_ok-down}
+use Rattle.lie_weight.proofs.stepped.simple_factors.Goals.{After-opposite, In_ok-up, In_ok-down}
 
-pub at-simple-requires-clause-place : goal.at-simple-requires-clause-place
-at-simple-requires-clause-place c =
-    let p = simple_place c.args.datum.now c.loaded.ensures (c.args.i + 1) (place_index c.args.datum.now c.loaded.ensures c.args.i c.requires.index) in
-    let m = c.m.ensures.value in omega (arith, p, m)
-
-simple_is : (c : After-at-simple) → c.at-simple.result ≡ pos (c.args.i + 1)
-simple_is c = place_simple c.args.datum.now c.loaded.ensures c.args.i c.m.result c.at-simple.result c.requires.index c.m.ensures.value c.at-simple.ensures
-
-simple_number : (c : After-at-simple) → IsNumber c.args.datum.now (pos (c.args.i + 1))
-simple_number c = simple_some c.args.datum.now c.loaded.ensures (c.args.i + 1) (place_index c.args.datum.now c.loaded.ensures c.args.i c.requires.index)
+pub simple-simple-requires : goal.simple-simple-requires
+simple-simple-requires c = place_index c.args.datum.now c.loaded.ensures c.args.i c.requires.index
 
 opposite_is : (c : After-opposite) → c.opposite.result ≡ neg_ℤ (pos (c.args.i + 1))
-opposite_is c = c.opposite.ensures ∙ ap neg_ℤ (place_simple c.args.datum.now c.loaded.ensures c.args.i c.m.result c.at-simple.result c.requires.index c.m.ensures.value c.at-simple.ensures)
-
-pub step_matrix-requires-clause-number : goal.step_matrix-requires-clause-number
-step_matrix-requires-clause-number c =
-    let a = (goal.at.step_matrix-requires-clause-number c).After-at-simple in
-    subst (IsNumber c.args.datum.now) (sym (simple_is a)) (simple_number a)
+opposite_is c = c.opposite.ensures ∙ ap neg_ℤ c.simple-simple.ensures.value
 
 pub step_matrix-requires-2-clause-number : goal.step_matrix-requires-2-clause-number
 step_matrix-requires-2-clause-number c =
@@ -34,12 +21,12 @@ step_matrix-requires-2-clause-number c =
     subst (IsNumber c.args.datum.now) (sym (opposite_is o)) (negative_some c.args.datum.now c.loaded.ensures (c.args.i + 1) (place_index c.args.datum.now c.loaded.ensures c.args.i c.requires.index))
 
 up_is : (c : In_ok-up) → c.in_ok-up.up ≡ step_matrix c.args.datum.now c.args.space.now.weights (pos (c.args.i + 1))
-up_is c = c.in_ok-up.ensures.value ∙ ap (λ (ws : List Vector). step_matrix c.args.datum.now ws c.at-simple.result) c.weights.ensures
-    ∙ ap (step_matrix c.args.datum.now c.args.space.now.weights) (place_simple c.args.datum.now c.loaded.ensures c.args.i c.m.result c.at-simple.result c.requires.index c.m.ensures.value c.at-simple.ensures)
+up_is c = c.in_ok-up.ensures.value ∙ ap (λ (ws : List Vector). step_matrix c.args.datum.now ws c.simple-simple.result) c.weights.ensures
+    ∙ ap (step_matrix c.args.datum.now c.args.space.now.weights) c.simple-simple.ensures.value
 
 down_is : (c : In_ok-down) → c.in_ok-down.down ≡ step_matrix c.args.datum.now c.args.space.now.weights (neg_ℤ (pos (c.args.i + 1)))
 down_is c = c.in_ok-down.ensures.value ∙ ap (λ (ws : List Vector). step_matrix c.args.datum.now ws c.opposite.result) c.weights-2.ensures
-    ∙ ap (step_matrix c.args.datum.now c.args.space.now.weights) (c.opposite.ensures ∙ ap neg_ℤ (place_simple c.args.datum.now c.loaded.ensures c.args.i c.m.result c.at-simple.result c.requires.index c.m.ensures.value c.at-simple.ensures))
+    ∙ ap (step_matrix c.args.datum.now c.args.space.now.weights) (c.opposite.ensures ∙ ap neg_ℤ c.simple-simple.ensures.value)
 
 pub step_factors-requires-clause-few : goal.step_factors-requires-clause-few
 step_factors-requires-clause-few c =

@@ -4,29 +4,16 @@ use Rattle.lie_datum.specs.RootDatum.{IsWithin}
 use Rattle.lie_datum.specs.RootList.{IsNumber}
 use Rattle.lie_datum.proofs.ListingLemmas.{ok_map}
 use Rattle.lie_weight.specs.Completion.{IsStepped, WritesSteps}
-use Rattle.lie_orbit.proofs.WeightLemmas.{simple_place, simple_some}
-use Rattle.lie_weight.proofs.StepLemmas.{place_simple, place_index, negative_some, writes_single, writes_weights, two_steps}
+use Rattle.lie_orbit.proofs.WeightLemmas.{simple_some}
+use Rattle.lie_weight.proofs.StepLemmas.{place_index, negative_some, writes_single, writes_weights, two_steps}
 use Rattle.lie_weight.proofs.stepped.write_simple_steps.Goals as goal
-use Rattle.lie_weight.proofs.stepped.write_simple_steps.Goals.{After-at-simple, After-opposite, In_ok-write_steps}
+use Rattle.lie_weight.proofs.stepped.write_simple_steps.Goals.{After-opposite, In_ok-write_steps}
 
-pub at-simple-requires-clause-place : goal.at-simple-requires-clause-place
-at-simple-requires-clause-place c =
-    let p = simple_place c.args.datum.now c.loaded.ensures (c.args.i + 1) (place_index c.args.datum.now c.loaded.ensures c.args.i c.requires.index) in
-    let m = c.m.ensures.value in omega (arith, p, m)
-
-simple_is : (c : After-at-simple) → c.at-simple.result ≡ pos (c.args.i + 1)
-simple_is c = place_simple c.args.datum.now c.loaded.ensures c.args.i c.m.result c.at-simple.result c.requires.index c.m.ensures.value c.at-simple.ensures
-
-simple_number : (c : After-at-simple) → IsNumber c.args.datum.now (pos (c.args.i + 1))
-simple_number c = simple_some c.args.datum.now c.loaded.ensures (c.args.i + 1) (place_index c.args.datum.now c.loaded.ensures c.args.i c.requires.index)
+pub simple-simple-requires : goal.simple-simple-requires
+simple-simple-requires c = place_index c.args.datum.now c.loaded.ensures c.args.i c.requires.index
 
 opposite_is : (c : After-opposite) → c.opposite.result ≡ neg_ℤ (pos (c.args.i + 1))
-opposite_is c = c.opposite.ensures ∙ ap neg_ℤ (place_simple c.args.datum.now c.loaded.ensures c.args.i c.m.result c.at-simple.result c.requires.index c.m.ensures.value c.at-simple.ensures)
-
-pub write_steps-requires-clause-number : goal.write_steps-requires-clause-number
-write_steps-requires-clause-number c =
-    let a = (goal.at.write_steps-requires-clause-number c).After-at-simple in
-    subst (IsNumber c.args.datum.now) (sym (simple_is a)) (simple_number a)
+opposite_is c = c.opposite.ensures ∙ ap neg_ℤ c.simple-simple.ensures.value
 
 pub write_steps-requires-2-clause-number : goal.write_steps-requires-2-clause-number
 write_steps-requires-2-clause-number c =
@@ -34,7 +21,7 @@ write_steps-requires-2-clause-number c =
     subst (IsNumber c.args.datum.now) (sym (opposite_is o)) (negative_some c.args.datum.now c.loaded.ensures (c.args.i + 1) (place_index c.args.datum.now c.loaded.ensures c.args.i c.requires.index))
 
 first_writes : (c : In_ok-write_steps) → WritesSteps c.args.datum.now c.args.space.now (pos (c.args.i + 1)) c.write_steps.new.space
-first_writes c = subst (λ t. WritesSteps c.args.datum.now c.args.space.now t c.write_steps.new.space) (place_simple c.args.datum.now c.loaded.ensures c.args.i c.m.result c.at-simple.result c.requires.index c.m.ensures.value c.at-simple.ensures) c.in_ok-write_steps.ensures
+first_writes c = subst (λ t. WritesSteps c.args.datum.now c.args.space.now t c.write_steps.new.space) c.simple-simple.ensures.value c.in_ok-write_steps.ensures
 
 first_weights : (c : In_ok-write_steps) → c.write_steps.new.space.weights ≡ c.args.space.now.weights
 first_weights c = writes_weights c.args.datum.now c.args.space.now c.requires.stepped.single (pos (c.args.i + 1)) (simple_some c.args.datum.now c.loaded.ensures (c.args.i + 1) (place_index c.args.datum.now c.loaded.ensures c.args.i c.requires.index)) c.write_steps.new.space (first_writes c)

@@ -1,0 +1,58 @@
+-- Modules with steps along the same weights are one, and the first place that is huge is one.
+use Rattle.std.proofs.Common.{◌≡◌, ℕ, suc, ◌<◌, ◌≤◌, ℤ, List, length, sym, subst, ◌∙◌, arith, ◌⊎◌, inl, inr, ⊎_elim}
+use Rattle.lie_datum.specs.Vectors.{Vector}
+use Rattle.lie_datum.specs.Numbers.{place}
+use Rattle.lie_datum.specs.RootList.{RootDatum, IsNumber, IsLoaded}
+use Rattle.lie_datum.proofs.Entries.{within_or_past}
+use Rattle.lie_datum.proofs.NumberLemmas.{place_within}
+use Rattle.lie_datum.proofs.SignedRoots.{same_place}
+use Rattle.lie_const.specs.Modules.{Module}
+use Rattle.lie_const.specs.Signs.{Signs}
+use Rattle.lie_weight.specs.Conjugation.{absolute_height, IsCompleted, IsCompletedBelow, IsHuge, Precedes}
+use Rattle.lie_weight.specs.OrbitModules.{HasSteps}
+use Rattle.lie_weight.specs.OrbitFaults.{IsFirstHugeAlong}
+use Rattle.lie_weight.proofs.UniqueLemmas.{powers_same, huge_same, one_module}
+
+-- ---- the order of the places
+module _ (d : RootDatum) where
+  -- of two places one stands before the other, or they are the same
+  pub trichotomy : (q r : ℤ) (j k : ℕ) → IsNumber d q → IsNumber d r → Precedes d q j r k ⊎ (Precedes d r k q j ⊎ ((q ≡ r) × (j ≡ k)))
+  trichotomy q r j k n m =
+      ⊎_elim (λ l. inl (inl l)) (λ l. ⊎_elim (λ l'. inr (inl (inl l'))) (λ l'.
+      (let e : absolute_height d q ≡ absolute_height d r = omega (arith, l, l') in
+      ⊎_elim (λ p. inl (inr (e, inl p))) (λ p. ⊎_elim (λ p'. inr (inl (inr (sym e, inl p')))) (λ p'.
+      (let f : place (length d.positive) q ≡ place (length d.positive) r = omega (arith, p, p') in
+      let s = same_place (length d.positive) q r (place_within d q n) (place_within d r m) f in
+      ⊎_elim (λ x. inl (inr (e, inr (s, x)))) (λ x. ⊎_elim (λ y. inr (inl (inr (sym e, inr (sym s, y))))) (λ y. inr (inr (s, omega (arith, x, y)))) (within_or_past k j)) (within_or_past j k)))
+      (within_or_past (place (length d.positive) r) (place (length d.positive) q))) (within_or_past (place (length d.positive) q) (place (length d.positive) r))))
+      (within_or_past (absolute_height d r) (absolute_height d q))) (within_or_past (absolute_height d q) (absolute_height d r))
+
+  precedes_low : (q r : ℤ) (j k : ℕ) → Precedes d q j r k → absolute_height d q ≤ absolute_height d r
+  precedes_low q r j k p = ⊎_elim (λ l. omega (arith, l)) (λ l. let e = l.0 in omega (arith, e)) p
+
+completed_less : (d : RootDatum) (eta : Signs) (v : Module) (h k : ℕ) → k ≤ h → IsCompletedBelow d eta v h → IsCompletedBelow d eta v k
+completed_less d eta v h k l c r low = c r (omega (arith, low, l))
+
+-- ---- modules along the same weights
+module _ (d : RootDatum) (loaded : IsLoaded d) (eta : Signs) (ws : List Vector) where
+  -- a place that is huge in one is huge in the other, up to the height at which both are completed
+  carried : (r : ℤ) (k : ℕ) (a b : Module) → a.weights ≡ ws → b.weights ≡ ws → HasSteps d a → HasSteps d b → IsCompletedBelow d eta a (absolute_height d r) → IsCompletedBelow d eta b (absolute_height d r) → IsHuge d a r k → IsHuge d b r k
+  carried r k a b ea eb sa sb ca cb x = huge_same d loaded a b (eb ∙ sym ea) sa sb eta (absolute_height d r) ca cb r k (omega arith) x
+
+  pub not_huge : (r : ℤ) (k : ℕ) (v : Module) → IsFirstHugeAlong d eta ws r k → v.weights ≡ ws → HasSteps d v → IsCompleted d eta v → ((q : ℤ) (j : ℕ) → ¬ IsHuge d v q j) → ⊥
+  not_huge r k v h e s c small = small r k (carried r k h.partial v h.weights e h.steps s h.completed (λ q low. c q) h.first.huge)
+
+  pub not_before : (q r : ℤ) (j k : ℕ) → IsFirstHugeAlong d eta ws q j → IsFirstHugeAlong d eta ws r k → ¬ Precedes d q j r k
+  not_before q r j k a b p =
+      let low = precedes_low d q r j k p in
+      b.first.before q j a.first.huge.lowering.from p
+      (carried q j a.partial b.partial a.weights b.weights a.steps b.steps a.completed (completed_less d eta b.partial (absolute_height d r) (absolute_height d q) low b.completed) a.first.huge)
+
+  pub one_huge : (q r : ℤ) (j k : ℕ) → IsFirstHugeAlong d eta ws q j → IsFirstHugeAlong d eta ws r k → (q ≡ r) × (j ≡ k)
+  one_huge q r j k a b =
+      ⊎_elim (λ p. absurd (not_before q r j k a b p)) (λ p. ⊎_elim (λ l. absurd (not_before r q k j b a l)) (λ e. e) p) (trichotomy d q r j k a.first.huge.lowering.from b.first.huge.lowering.from)
+
+  pub one_made : (u v : Module) → u.weights ≡ ws → v.weights ≡ ws → HasSteps d u → HasSteps d v → IsCompleted d eta u → IsCompleted d eta v → u ≡ v
+  one_made u v eu ev su sv cu cv =
+      let same = eu ∙ sym ev in
+      one_module d v u sv.shape su.shape same (λ r k n one. powers_same d loaded v u same sv su eta (suc (absolute_height d r)) (λ q low. cv q) (λ q low. cu q) r k n (omega arith) one)
