@@ -25,6 +25,6 @@ pub use laws::{
     equal_matrices, joined_words_multiply, one_adjoint, one_braid_answer, one_sign_answer,
     one_sign_table, weyl_moves_weights,
 };
-pub use sign_checks::signs;
 pub use lie_identities::{AuditFault, Audited, Rel, audit};
+pub use sign_checks::signs;
 pub use word_matrices::word_matrix;

@@ -215,19 +215,23 @@ module _ (d : RootDatum) (loaded : IsLoaded d) (eta : Signs) where
 
         pub carrier_loads : (vs : List Module) (v : Module) → AreMade d eta os vs → IsDirectSum d (adjoint ∷ vs) v → LoadsCarrier d eta adjoint (Ok v)
         carrier_loads vs v m s =
-            let same : v.weights ≡ ws = direct_sum-weights d (adjoint ∷ vs) v s ∙ ap (λ t. adjoint.weights ++ joined t) m.weights ∙ sym in_order in
-            (record {
-              modules = vs;
-              orbits = subst (AreOrbitsOf d d.base.dim) (sym m.weights) a;
-              of_orbits = λ k z l.
-                  (let w = get_or vs k z in
-                  let at : get_or os k w.weights ≡ w.weights = ap (λ t. get_or t k w.weights) (sym m.weights) ∙ get_or-map-here vs k z l in
-                  let inside : k < length os = let e = ap length m.weights in let g = length-map vs (λ (u : Module). u.weights) in omega (arith, l, e, g) in
-                  let y = orbit_of d loaded d.base.dim os a w.weights (subst (λ t. In t os) at (in_at os k w.weights inside)) in
-                  let made = m.each k z l in
-                  (y.0, record { weights = y.2; steps = made.steps; completed = made.completed }));
-              sum = s;
-            }, (let e = ap length same in omega (arith, e, few)), subst (λ t. (c : ℕ) → ¬ IsHeavyAt t c) (sym same) light, λ r k h. (let e = huge_at r k h in none_of os vs m e.0 e.1 r k e.2))
+            let same : v.weights ≡ ws = direct_sum-weights d (adjoint ∷ vs) v s ∙ ap (λ t. adjoint.weights ++ joined t) m.weights ∙ sym in_order in (
+              record {
+                modules = vs;
+                orbits = subst (AreOrbitsOf d d.base.dim) (sym m.weights) a;
+                of_orbits = λ k z l.
+                    (let w = get_or vs k z in
+                    let at : get_or os k w.weights ≡ w.weights = ap (λ t. get_or t k w.weights) (sym m.weights) ∙ get_or-map-here vs k z l in
+                    let inside : k < length os = let e = ap length m.weights in let g = length-map vs (λ (u : Module). u.weights) in omega (arith, l, e, g) in
+                    let y = orbit_of d loaded d.base.dim os a w.weights (subst (λ t. In t os) at (in_at os k w.weights inside)) in
+                    let made = m.each k z l in
+                    (y.0, record { weights = y.2; steps = made.steps; completed = made.completed }));
+                sum = s;
+              },
+              (let e = ap length same in omega (arith, e, few)),
+              subst (λ t. (c : ℕ) → ¬ IsHeavyAt t c) (sym same) light,
+              λ r k h. (let e = huge_at r k h in none_of os vs m e.0 e.1 r k e.2),
+            )
           where
             get_or-map-here : (vs : List Module) (k : ℕ) (z : Module) → k < length vs → get_or (map (λ (u : Module). u.weights) vs) k (get_or vs k z).weights ≡ (get_or vs k z).weights
             get_or-map-here [] k z l = absurd (omega (arith, l))

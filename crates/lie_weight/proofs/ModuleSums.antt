@@ -215,9 +215,9 @@ pub sum_filled : (v w : Module) (m : ℕ) (ws : List Vector) (Mss : List (List (
 sum_filled v w m ws Mss n p e f l =
     let a : ◌≡◌ {A = Module} (record { positive = m; weights = ws; powers = Mss }) (record { positive = m; weights = v.weights ++ w.weights; powers = Mss }) = ap (λ (t : List Vector). record { positive = m; weights = t; powers = Mss }) e in
     let b : ◌≡◌ {A = Module} (record { positive = m; weights = v.weights ++ w.weights; powers = Mss }) (record { positive = m; weights = v.weights ++ w.weights; powers = map (λ i. sum_powers v w (number_at m i)) (range_with_len 0 (2 * m)) }) =
-        ap (λ (t : List (List (Matrix ℤ))). record { positive = m; weights = v.weights ++ w.weights; powers = t }) (f ∙ ap (λ t. map (λ i. sum_powers v w (number_at m i)) (range_with_len 0 t)) l) in
+    ap (λ (t : List (List (Matrix ℤ))). record { positive = m; weights = v.weights ++ w.weights; powers = t }) (f ∙ ap (λ t. map (λ i. sum_powers v w (number_at m i)) (range_with_len 0 t)) l) in
     let c : ◌≡◌ {A = Module} (record { positive = m; weights = v.weights ++ w.weights; powers = map (λ i. sum_powers v w (number_at m i)) (range_with_len 0 (2 * m)) }) (module_sum v w) =
-        ap (λ (t : ℕ). record { positive = t; weights = v.weights ++ w.weights; powers = map (λ i. sum_powers v w (number_at t i)) (range_with_len 0 (2 * t)) }) p in
+    ap (λ (t : ℕ). record { positive = t; weights = v.weights ++ w.weights; powers = map (λ i. sum_powers v w (number_at t i)) (range_with_len 0 (2 * t)) }) p in
     a ∙ b ∙ c
 
 -- the whole sum

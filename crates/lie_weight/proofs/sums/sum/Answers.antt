@@ -19,9 +19,10 @@ loop-place-preserved c =
     let more = c.in_ok-root_powers.field-0 in
     let xs = c.loop-place.powers.items in
     let value = c.in_ok-root_powers.ensures.value ∙ ap (sum_powers v w) c.at-r.ensures in
-    let pushed = ap (map (λ l. l.items)) c.in_ok-push.ensures.items ∙ map_push (λ l. l.items) xs more in
-    (roots_push v w c.m-positive.result p (p + 1) (map (λ l. l.items) xs) (map (λ l. l.items) c.push.new.self.items) more.items one c.loop-place.invariant.0 value pushed,
-    subst (All (ArePowers (dimension v + dimension w))) (sym pushed) (all_push (ArePowers (dimension v + dimension w)) (map (λ l. l.items) xs) more.items c.loop-place.invariant.1 c.in_ok-root_powers.ensures.kept))
+    let pushed = ap (map (λ l. l.items)) c.in_ok-push.ensures.items ∙ map_push (λ l. l.items) xs more in (
+      roots_push v w c.m-positive.result p (p + 1) (map (λ l. l.items) xs) (map (λ l. l.items) c.push.new.self.items) more.items one c.loop-place.invariant.0 value pushed,
+      subst (All (ArePowers (dimension v + dimension w))) (sym pushed) (all_push (ArePowers (dimension v + dimension w)) (map (λ l. l.items) xs) more.items c.loop-place.invariant.1 c.in_ok-root_powers.ensures.kept),
+    )
 
 pub invariant_of-result : goal.invariant_of-result
 invariant_of-result c =
