@@ -1,8 +1,7 @@
 -- Products and inverses of forms: reversed words of joined words, of lists, and of torus vectors and words of the n_i.
-use Rattle.std.proofs.Common.{◌≡◌, ℕ, ◌+◌, ◌<◌, ℤ, pos, List, [], ◌∷◌, ◌++◌, map, length, get_or, take, reverse, refl, sym, ap, ap₂, subst, ◌∙◌, append_assoc, Result, Ok, Err, IfOk}
+use Rattle.std.proofs.Common.{◌≡◌, ℕ, ◌+◌, ◌<◌, ℤ, pos, List, [], ◌∷◌, ◌++◌, map, length, get_or, take, reverse, refl, sym, ap, subst, ◌∙◌, append_assoc, Result, Ok, Err, IfOk}
 use Rattle.std.specs.Prelude.{nat_lt}
 use Rattle.std.proofs.lemmas.List.{append-nil, map-append, reverse-append, length-reverse, take_more}
-use Rattle.lie_ring.specs.Rings.{RingOn}
 use Rattle.lie_field.specs.FieldRing.{field_ring, field_is_ring}
 use Rattle.lie_field.specs.FiniteField.{FiniteField}
 use Rattle.lie_datum.specs.RootDatum.{IsSimpleIndex}

@@ -1,5 +1,5 @@
 -- The rules of n_i by numbers: its square, its inverse, and the root letters at the opposite of a_i.
-use Rattle.std.proofs.Common.{◌≡◌, ℕ, zero, suc, ◌<◌, ◌≤◌, ℤ, pos, negsuc, neg_ℤ, List, [], ◌∷◌, ◌++◌, map, length, refl, sym, ap, ap₂, subst, ◌∙◌, arith}
+use Rattle.std.proofs.Common.{◌≡◌, ℕ, zero, suc, ◌<◌, ◌≤◌, ℤ, pos, negsuc, neg_ℤ, List, [], ◌∷◌, length, refl, sym, ap, ap₂, subst, ◌∙◌, arith}
 use Rattle.lie_base.specs.Below.{at_number, same_below}
 use Rattle.lie_ring.specs.RingLemmas.{int_neg}
 use Rattle.lie_field.specs.FiniteField.{FiniteField}
@@ -11,7 +11,7 @@ use Rattle.lie_datum.specs.RootList.{RootDatum, IsLoaded, IsNumber, root_of}
 use Rattle.lie_datum.proofs.SignedRoots.{same_number, opposite_number}
 use Rattle.lie_datum.proofs.ReflectionLaws.{simple_reflection_law_holds}
 use Rattle.lie_datum.proofs.SimplesFirst.{simple_number}
-use Rattle.lie_letters.specs.declared.letter.Letter.TheVariants.{X as CodeX, H as CodeH, N as CodeN, Ninv as CodeNinv}
+use Rattle.lie_letters.specs.declared.letter.Letter.TheVariants.{X as CodeX, H as CodeH, N as CodeN}
 use Rattle.lie_letters.specs.Entries.{cocharacter}
 use Rattle.lie_letters.specs.Frames.{setting, coroot_at}
 use Rattle.lie_letters.specs.GroupSpelled.{JoinedInGroup}

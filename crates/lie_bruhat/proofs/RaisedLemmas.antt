@@ -1,7 +1,7 @@
 -- Root letters at negative roots: a simple reflection raises each negative root, and n_i conjugates its letter.
-use Rattle.std.proofs.Common.{◌≡◌, ℕ, suc, ◌<◌, ◌≤◌, ℤ, pos, neg_ℤ, ◌-ℤ◌, ◌<ℤ◌, Bool, true, false, List, [], ◌∷◌, length, ◌⊎◌, ⊎_elim, refl, sym, ap, subst, ◌∙◌, arith, Result, Ok, Err, IfOk}
+use Rattle.std.proofs.Common.{◌≡◌, ℕ, suc, ◌<◌, ◌≤◌, ℤ, pos, neg_ℤ, ◌-ℤ◌, ◌<ℤ◌, Bool, true, false, List, [], ◌∷◌, length, ⊎_elim, refl, sym, ap, subst, ◌∙◌, arith, Result, Ok, Err, IfOk}
 use Rattle.std.specs.Prelude.{unsigned_abs}
-use Rattle.std.proofs.lemmas.Int.{ints, by_lt_z}
+use Rattle.std.proofs.lemmas.Int.{ints}
 use Rattle.std.proofs.lemmas.Result.{IfOk-weaker}
 use Rattle.lie_unip.specs.Forms.{FormData}
 use Rattle.lie_datum.proofs.NumberLemmas.{place_within}
@@ -12,7 +12,7 @@ use Rattle.lie_datum.proofs.ReflectionLaws.{simple_reflection_law_holds}
 use Rattle.lie_datum.proofs.SignedRoots.{same_number, opposite_number}
 use Rattle.lie_weyl.proofs.Signs.{simple_up}
 use Rattle.lie_weyl.proofs.Words.{twice}
-use Rattle.lie_letters.specs.Names.{RootName, Index, root_at, signed_number, simple_name, opposite_name, reflect_name, is_negative_name}
+use Rattle.lie_letters.specs.Names.{RootName, root_at, signed_number, simple_name, opposite_name, reflect_name, is_negative_name}
 use Rattle.lie_letters.specs.declared.letter.Letter.{Letter}
 use Rattle.lie_letters.specs.declared.letter.Letter.TheVariants.{X, N, Ninv}
 use Rattle.lie_letters.specs.GroupSpelled.{JoinedInGroup}
@@ -78,24 +78,26 @@ module _ (d : RootDatum) (loaded : IsLoaded d) where
       let e = negative_name n.0 (subst (λ z. z <ℤ pos 0) (sym n.1) low) in
       let near = nearer d loaded n.0 e in
       let i = near.0 in
-      let here : root_of d r ≡ root_at d n.0 = ap (root_of d) (sym n.1) ∙ (named_is d n.0).root in
-      (suc i.number, index_is d i,
-      λ s of_root is.
-          ⊎_elim
-          (λ (o : n.0 ≡ opposite_name d (simple_name d i)).
-          (let a = simple (suc i.number) in
-          let g = index_is d i in
-          let root : root_of d r ≡ opposite a = here ∙ ap (root_at d) o ∙ opposite_at d loaded (simple_name d i) ∙ ap opposite (simple_at d i) in
-          let own = (simple_reflection_law_holds d loaded).own (suc i.number) g in
-          let image : root_of d s ≡ a = is ∙ ap (reflected d.base (suc i.number)) (root ∙ sym own) ∙ twice d loaded (suc i.number) a g (is_simple (suc i.number) g) in
-          let up = positive_number d loaded s of_root (subst IsPositive (sym image) (simple_up d loaded (suc i.number) g)) in
-          between r s low up))
-          (λ (h : (is_negative_name d (reflect_name d i n.0) ≡ true) × (depth_of d loaded (reflect_name d i n.0) < depth_of d loaded n.0)).
-          (let k = reflect_name d i n.0 in
-          let own = named_is d k in
-          let same : signed_number d k ≡ s = same_number d loaded (signed_number d k) s own.number of_root (own.root ∙ reflect_at d loaded i n.0 ∙ ap (reflected d.base (suc i.number)) (sym here) ∙ sym is) in
-          subst (λ z. r <ℤ z) same (subst (λ z. z <ℤ signed_number d k) n.1 (less_depth n.0 k e h.0 h.1))))
-          near.1)
+      let here : root_of d r ≡ root_at d n.0 = ap (root_of d) (sym n.1) ∙ (named_is d n.0).root in (
+        suc i.number,
+        index_is d i,
+        λ s of_root is.
+            ⊎_elim
+            (λ (o : n.0 ≡ opposite_name d (simple_name d i)).
+            (let a = simple (suc i.number) in
+            let g = index_is d i in
+            let root : root_of d r ≡ opposite a = here ∙ ap (root_at d) o ∙ opposite_at d loaded (simple_name d i) ∙ ap opposite (simple_at d i) in
+            let own = (simple_reflection_law_holds d loaded).own (suc i.number) g in
+            let image : root_of d s ≡ a = is ∙ ap (reflected d.base (suc i.number)) (root ∙ sym own) ∙ twice d loaded (suc i.number) a g (is_simple (suc i.number) g) in
+            let up = positive_number d loaded s of_root (subst IsPositive (sym image) (simple_up d loaded (suc i.number) g)) in
+            between r s low up))
+            (λ (h : (is_negative_name d (reflect_name d i n.0) ≡ true) × (depth_of d loaded (reflect_name d i n.0) < depth_of d loaded n.0)).
+            (let k = reflect_name d i n.0 in
+            let own = named_is d k in
+            let same : signed_number d k ≡ s = same_number d loaded (signed_number d k) s own.number of_root (own.root ∙ reflect_at d loaded i n.0 ∙ ap (reflected d.base (suc i.number)) (sym here) ∙ sym is) in
+            subst (λ z. r <ℤ z) same (subst (λ z. z <ℤ signed_number d k) n.1 (less_depth n.0 k e h.0 h.1))))
+            near.1,
+      )
     where
       between : (r s : ℤ) → r <ℤ pos 0 → pos 0 <ℤ s → r <ℤ s
       between r s a b = omega (arith, ints, a, b)

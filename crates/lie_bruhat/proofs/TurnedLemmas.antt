@@ -1,13 +1,13 @@
 -- Forms times n_i: words of the n_i with one letter behind them, letters that n_i passes, and the second list without its letter at a_i.
-use Rattle.std.proofs.Common.{◌≡◌, ℕ, zero, suc, ◌+◌, ◌-◌, ◌<◌, ◌≤◌, ℤ, pos, neg_ℤ, ◌<ℤ◌, Bool, true, false, not, List, [], ◌∷◌, ◌++◌, map, length, get_or, replicate, filter, refl, sym, ap, ap₂, subst, ◌∙◌, arith, append_assoc, ◌⊎◌, inl, inr, ⊎_elim, Result, Ok, Err, IfOk}
+use Rattle.std.proofs.Common.{◌≡◌, ℕ, zero, suc, ◌+◌, ◌-◌, ◌<◌, ◌≤◌, ℤ, pos, ◌<ℤ◌, Bool, true, false, not, List, [], ◌∷◌, ◌++◌, map, length, get_or, replicate, filter, refl, sym, ap, ap₂, subst, ◌∙◌, arith, append_assoc, ◌⊎◌, inl, inr, ⊎_elim}
 use Rattle.std.specs.Prelude.{nat_lt, nat_eq}
 use Rattle.std.proofs.lemmas.Bool.{false≢true, ltb-true}
 use Rattle.std.proofs.lemmas.Int.{ints}
 use Rattle.std.proofs.lemmas.Bool.Decides.{nat_tests}
-use Rattle.std.proofs.lemmas.List.{append-nil, map-append, get_or-map, length-append}
+use Rattle.std.proofs.lemmas.List.{map-append, get_or-map, length-append}
 use Rattle.std.proofs.lemmas.Option.{unwrap_or-slice_get}
 use Rattle.lie_field.specs.FieldRing.{field_ring}
-use Rattle.lie_field.specs.Quotient.{order, neg}
+use Rattle.lie_field.specs.Quotient.{order}
 use Rattle.lie_datum.specs.declared.root_pair.Root.{Root}
 use Rattle.lie_datum.specs.RootDatum.{IsSimpleIndex, IsPositive, IsRoot, is_simple, is_reflected, simple, reflected}
 use Rattle.lie_datum.specs.RootList.{RootDatum, IsLoaded, IsNumber, root_of}
@@ -16,15 +16,12 @@ use Rattle.lie_datum.proofs.NumberLemmas.{some_within, place_within}
 use Rattle.lie_datum.proofs.ReflectionLaws.{simple_reflection_law_holds}
 use Rattle.lie_datum.proofs.SignedRoots.{root_is, same_number}
 use Rattle.lie_datum.proofs.SimplesFirst.{simple_number}
-use Rattle.lie_weyl.specs.WeylElement.{AreLetters, SameProduct, Spells, moved, is_negative, word_length}
-use Rattle.lie_weyl.proofs.ElementLemmas.{one_list, respelled}
-use Rattle.lie_weyl.proofs.LengthLemmas.{longer, length_same}
-use Rattle.lie_weyl.proofs.Linearity.{spelled_same}
-use Rattle.lie_weyl.proofs.Signs.{positive_test, turned_negative, turned_positive}
+use Rattle.lie_weyl.specs.WeylElement.{AreLetters, SameProduct, moved, is_negative, word_length}
+use Rattle.lie_weyl.proofs.LengthLemmas.{longer}
+use Rattle.lie_weyl.proofs.Signs.{positive_test, turned_positive}
 use Rattle.lie_weyl.proofs.Words.{is_word, are_letters, after_letter, one_letter, twice, IsWord-append}
 use Rattle.lie_letters.specs.declared.letter.Letter.{Letter}
 use Rattle.lie_letters.specs.declared.letter.Letter.TheVariants.{X, H, N, Ninv}
-use Rattle.lie_letters.specs.Frames.{dim}
 use Rattle.lie_letters.specs.GroupSpelled.{JoinedInGroup}
 use Rattle.lie_letters.specs.PositiveTerms.{positive_terms}
 use Rattle.lie_letters.specs.RingLetters.{full_from, full_word}
@@ -32,15 +29,14 @@ use Rattle.lie_letters.specs.SignedFrames.{SignedFrame, unsigned, IsLawfulSigned
 use Rattle.lie_letters.specs.Spelled.{IsWordOver, root_letters}
 use Rattle.lie_letters.proofs.CallerLemmas.{JoinedInGroup-trans, JoinedInGroup-flip, JoinedInGroup-over, JoinedInGroup-plain, JoinedInGroup-refl, IsWordOver-append, zero_joined}
 use Rattle.lie_unip.specs.Collection.{AreEntries, IsCollected}
-use Rattle.lie_unip.specs.Forms.{FormData, IsForm, IsFormOf, IsShortest, StandsFor, form_word, is_nonzero}
+use Rattle.lie_unip.specs.Forms.{FormData, IsForm, is_nonzero}
 use Rattle.lie_unip.specs.PositiveLetters.{ArePositiveLetters, by_place}
 use Rattle.lie_unip.specs.Splitting.{IsSplit, kept_at, kept_by}
 use Rattle.lie_unip.proofs.PositiveLetterLemmas.{lawful_letters}
-use Rattle.lie_bruhat.specs.Products.{IsTimes, IsTurned, IsSameOrTurned, KeepsPositive, ZeroElsewhere, IsSquare, StandsTurned}
-use Rattle.lie_bruhat.proofs.ListLemmas.{letters, letters_behind, parts_joined, second_where}
-use Rattle.lie_bruhat.proofs.PassLemmas.{Passes, joined_equal, first_over, joined_behind, joined_before, inverse_before, inverse_passes, IsWordOver-both}
+use Rattle.lie_bruhat.specs.Products.{KeepsPositive, ZeroElsewhere, IsSquare}
+use Rattle.lie_bruhat.proofs.ListLemmas.{letters, letters_behind, second_where}
+use Rattle.lie_bruhat.proofs.PassLemmas.{first_over, joined_behind, joined_before, inverse_passes}
 use Rattle.lie_bruhat.proofs.RulesHold.{reversed_cancels, shortest_words_joined}
-use Rattle.lie_bruhat.proofs.TimesLemmas.{some_shortest, form_over, form_joined}
 
 -- zeros give no letter
 pub zero_letters : (n s : ℕ) → filter is_nonzero (full_from s (replicate n 0)) ≡ []

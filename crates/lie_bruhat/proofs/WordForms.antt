@@ -1,19 +1,18 @@
 -- The form of the empty word, and letters of words.
-use Rattle.std.proofs.Common.{◌≡◌, ℕ, ◌+◌, ◌<◌, List, [], ◌∷◌, ◌++◌, map, take, length, get_or, replicate, filter, refl, sym, ap, subst, ◌∙◌, arith}
+use Rattle.std.proofs.Common.{◌≡◌, ℕ, ◌+◌, ◌<◌, List, [], ◌∷◌, ◌++◌, take, length, get_or, replicate, refl, sym, ap, subst, ◌∙◌, arith}
 use Rattle.std.proofs.lemmas.List.{take_more}
 use Rattle.lie_weyl.specs.WeylElement.{Spells}
 use Rattle.lie_weyl.proofs.LengthLemmas.{length_same, length_empty}
 use Rattle.lie_weyl.proofs.Linearity.{spelled_same}
 use Rattle.lie_letters.specs.declared.letter.Letter.{Letter}
-use Rattle.lie_letters.specs.declared.letter.Letter.TheVariants.{H, N}
+use Rattle.lie_letters.specs.declared.letter.Letter.TheVariants.{H}
 use Rattle.lie_letters.specs.Entries.{ones}
 use Rattle.lie_letters.specs.Frames.{dim}
 use Rattle.lie_letters.specs.GroupSpelled.{JoinedInGroup}
-use Rattle.lie_letters.specs.RingLetters.{full_word}
 use Rattle.lie_letters.specs.SignedFrames.{SignedFrame, unsigned, IsLawfulSigned}
 use Rattle.lie_letters.specs.Spelled.{root_letters}
 use Rattle.lie_letters.proofs.CallerLemmas.{JoinedInGroup-plain, ones_joined}
-use Rattle.lie_unip.specs.Forms.{FormData, IsForm, IsFormOf, form_word, is_nonzero}
+use Rattle.lie_unip.specs.Forms.{FormData, IsForm, IsFormOf, form_word}
 use Rattle.lie_bruhat.specs.Products.{IsTimes}
 use Rattle.lie_bruhat.proofs.ListLemmas.{letters}
 use Rattle.lie_bruhat.proofs.TurnedLemmas.{zero_letters}

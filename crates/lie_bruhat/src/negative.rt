@@ -29,13 +29,7 @@ fn copied(alloc: Global, frame: &Frame, f: &Form) -> Result<Form, AllocError>
 }
 
 /// The form times `x_-i(c)`.
-fn times_opposite(
-    alloc: Global,
-    frame: &Frame,
-    f: &Form,
-    i: u8,
-    c: Fe,
-) -> Result<Form, AllocError>
+fn times_opposite(alloc: Global, frame: &Frame, f: &Form, i: u8, c: Fe) -> Result<Form, AllocError>
     requires form { IsForm frame.now f.now }
     requires index { IsSimpleIndex frame.now.datum.base i }
     requires below { c < order frame.now.field.given }

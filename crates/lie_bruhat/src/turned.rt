@@ -45,12 +45,7 @@ pub(crate) fn square(frame: &Frame, i: u8) -> Torus
 {
     frame.lawful();
     let Frame { field, datum, .. } = frame;
-    Torus::coroot(
-        field,
-        datum,
-        datum.simple(i as usize),
-        field.integer(-1),
-    )
+    Torus::coroot(field, datum, datum.simple(i as usize), field.integer(-1))
 }
 
 /// The list that stands behind `n_i` where y stood in front of it, which is 0 at a_i.
@@ -166,13 +161,7 @@ pub(crate) fn opposite_torus(frame: &Frame, i: u8, c: Fe) -> Torus
 }
 
 /// The form times `x_-i(c)`, where w keeps a_i positive and c isn't 0: the Weyl element is w s_i.
-fn raised_opposite(
-    alloc: Global,
-    frame: &Frame,
-    f: &Form,
-    i: u8,
-    c: Fe,
-) -> Result<Form, AllocError>
+fn raised_opposite(alloc: Global, frame: &Frame, f: &Form, i: u8, c: Fe) -> Result<Form, AllocError>
     requires form { IsForm frame.now f.now }
     requires index { IsSimpleIndex frame.now.datum.base i }
     requires up { KeepsPositive frame.now.datum f.now.weyl i }

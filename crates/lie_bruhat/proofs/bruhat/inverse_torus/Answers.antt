@@ -1,8 +1,8 @@
-use Rattle.std.proofs.Common.{◌≡◌, ◌∷◌, [], get_or, length, map, reverse, take, refl, sym, ap, subst, ◌∙◌, arith}
+use Rattle.std.proofs.Common.{◌≡◌, ◌∷◌, [], get_or, map, reverse, refl, sym, ap, subst, ◌∙◌}
 use Rattle.lie_datum.proofs.VectorLemmas.{take_whole}
 use Rattle.lie_letters.specs.Entries.{AreUnits, inverses, reflected}
 use Rattle.lie_letters.specs.GroupSpelled.{JoinedInGroup}
-use Rattle.lie_letters.specs.SignedFrames.{SignedFrame, unsigned}
+use Rattle.lie_letters.specs.SignedFrames.{SignedFrame}
 use Rattle.lie_letters.specs.Spelled.{reversed}
 use Rattle.lie_letters.specs.declared.letter.Letter.TheVariants.{H, N}
 use Rattle.lie_letters.proofs.CallerLemmas.{JoinedInGroup-over}

@@ -1,4 +1,4 @@
-use Rattle.std.proofs.Common.{◌≡◌, ◌≤◌, ◌<◌, ◌++◌, ◌∷◌, [], length, map, get_or, take, subst, sym, ◌∙◌, arith}
+use Rattle.std.proofs.Common.{◌≤◌, ◌<◌, ◌++◌, ◌∷◌, [], length, map, subst, arith}
 use Rattle.std.proofs.lemmas.List.{get_or_read}
 use Rattle.lie_datum.proofs.VectorLemmas.{take_whole}
 use Rattle.lie_letters.specs.declared.letter.Letter.TheVariants.{H, N}

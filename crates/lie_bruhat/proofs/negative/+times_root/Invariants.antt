@@ -1,4 +1,4 @@
-use Rattle.std.proofs.Common.{ℕ, pos, ◌-ℤ◌, length}
+use Rattle.std.proofs.Common.{pos, ◌-ℤ◌, length}
 use Rattle.std.specs.Prelude.{unsigned_abs}
 use Rattle.lie_bruhat.proofs.negative.+times_root.Given as goal
 

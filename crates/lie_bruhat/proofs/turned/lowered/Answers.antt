@@ -1,10 +1,10 @@
-use Rattle.std.proofs.Common.{◌≡◌, ◌++◌, ◌∷◌, [], neg_ℤ, pos, inr, sym, ap, subst, ◌∙◌, IfOk}
+use Rattle.std.proofs.Common.{◌≡◌, ◌++◌, ◌∷◌, [], pos, inr, sym, subst, ◌∙◌, IfOk}
 use Rattle.std.proofs.lemmas.Result.{IfOk-weaker}
 use Rattle.lie_datum.specs.RootDatum.{simple}
 use Rattle.lie_datum.specs.RootList.{root_of}
 use Rattle.lie_letters.specs.GroupSpelled.{JoinedInGroup}
 use Rattle.lie_letters.specs.SignedFrames.{unsigned}
-use Rattle.lie_letters.specs.declared.letter.Letter.TheVariants.{X, N}
+use Rattle.lie_letters.specs.declared.letter.Letter.TheVariants.{X}
 use Rattle.lie_letters.proofs.CallerLemmas.{JoinedInGroup-plain, zero_joined}
 use Rattle.lie_unip.specs.Forms.{FormData}
 use Rattle.lie_bruhat.specs.Products.{IsTimes, IsTurned, IsSameOrTurned}

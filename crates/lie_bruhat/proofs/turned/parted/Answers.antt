@@ -1,4 +1,4 @@
-use Rattle.std.proofs.Common.{◌≡◌, ℕ, ◌≤◌, ◌<◌, ◌-◌, ◌∷◌, [], List, length, get_or, pos, sym, ap, subst, ◌∙◌, arith}
+use Rattle.std.proofs.Common.{◌<◌, ◌∷◌, [], length, pos, sym, subst}
 use Rattle.lie_field.specs.FieldRing.{field_ring}
 use Rattle.lie_field.specs.Quotient.{order}
 use Rattle.lie_letters.specs.PositiveTerms.{positive_terms}

@@ -1,4 +1,4 @@
-use Rattle.std.proofs.Common.{◌≡◌, ◌∷◌, [], negsuc, sym, ap, subst, ◌∙◌}
+use Rattle.std.proofs.Common.{◌≡◌, ◌∷◌, [], negsuc, sym, subst, ◌∙◌}
 use Rattle.lie_datum.specs.RootDatum.{covector, simple}
 use Rattle.lie_datum.specs.RootList.{root_of}
 use Rattle.lie_field.specs.Quotient.{of_int}

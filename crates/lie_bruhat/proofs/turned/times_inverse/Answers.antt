@@ -1,4 +1,4 @@
-use Rattle.std.proofs.Common.{◌≡◌, ◌∷◌, [], subst, IfOk}
+use Rattle.std.proofs.Common.{◌∷◌, [], subst, IfOk}
 use Rattle.lie_letters.specs.declared.letter.Letter.TheVariants.{H, N, Ninv}
 use Rattle.lie_letters.proofs.CallerLemmas.{JoinedInGroup-flip}
 use Rattle.lie_unip.specs.Forms.{FormData}

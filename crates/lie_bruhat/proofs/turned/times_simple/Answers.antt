@@ -1,4 +1,4 @@
-use Rattle.std.proofs.Common.{◌≡◌, sym, subst, ◌∙◌}
+use Rattle.std.proofs.Common.{sym, subst, ◌∙◌}
 use Rattle.std.proofs.lemmas.Bool.{false≢true}
 use Rattle.lie_bruhat.specs.Products.{KeepsPositive}
 use Rattle.lie_bruhat.proofs.turned.times_simple.Goals as goal

@@ -1,13 +1,9 @@
-use Rattle.std.proofs.Common.{◌≡◌, ℕ, ◌++◌, ◌∷◌, [], List, map, sym, subst, IfOk}
-use Rattle.std.specs.Prelude.{ℤ}
+use Rattle.std.proofs.Common.{◌≡◌, List, sym, subst}
 use Rattle.std.proofs.lemmas.Result.{IfOk-weaker}
 use Rattle.lie_letters.specs.declared.letter.Letter.{Letter}
-use Rattle.lie_letters.specs.declared.letter.Letter.TheVariants.{H, N}
-use Rattle.lie_letters.specs.GroupSpelled.{JoinedInGroup}
 use Rattle.lie_unip.specs.Forms.{FormData, IsFormOf, StandsFor}
-use Rattle.lie_weyl.specs.WeylElement.{Spells}
 use Rattle.lie_bruhat.specs.Products.{IsTurned, StandsTurned}
-use Rattle.lie_bruhat.proofs.TurnedForms.{turned_stands, Steps}
+use Rattle.lie_bruhat.proofs.TurnedForms.{turned_stands}
 use Rattle.lie_bruhat.proofs.turned.turned.Goals as goal
 
 -- the images of w s_i
@@ -32,6 +28,6 @@ returns-clause-joined c =
     IfOk-weaker c.settled.result
     (λ n. (z : List Letter) → StandsFor f (record { first = c.u.result.now; torus = h; weyl = w; second = y }) z → IsFormOf f n z) (λ n. (z : List Letter) → StandsTurned f x i y z → IsFormOf f n z)
     (λ n joined z stands. joined z
-        (subst (λ u. StandsFor f (record { first = u; torus = h; weyl = w; second = y }) z) (sym c.u.ensures)
-        (turned_stands f c.lawful.ensures x i y h w z c.requires.form c.requires.entries (c.in_ok-h.ensures.joined w (turned c)) stands)))
+    (subst (λ u. StandsFor f (record { first = u; torus = h; weyl = w; second = y }) z) (sym c.u.ensures)
+    (turned_stands f c.lawful.ensures x i y h w z c.requires.form c.requires.entries (c.in_ok-h.ensures.joined w (turned c)) stands)))
     c.settled.ensures.joined

@@ -1,4 +1,4 @@
-use Rattle.std.proofs.Common.{◌≡◌, ◌++◌, ◌∷◌, [], length, replicate, subst, ◌∙◌, sym, IfOk}
+use Rattle.std.proofs.Common.{◌≡◌, ◌++◌, ◌∷◌, [], length, replicate, subst}
 use Rattle.std.specs.Prelude.{nat_lt}
 use Rattle.std.proofs.lemmas.Result.{IfOk-weaker}
 use Rattle.lie_field.specs.FieldRing.{field_ring}
@@ -6,12 +6,12 @@ use Rattle.lie_letters.specs.GroupSpelled.{JoinedInGroup}
 use Rattle.lie_letters.specs.PositiveTerms.{positive_terms}
 use Rattle.lie_letters.specs.RingLetters.{full_word}
 use Rattle.lie_letters.specs.Spelled.{root_letters}
-use Rattle.lie_letters.specs.declared.letter.Letter.TheVariants.{H, N}
+use Rattle.lie_letters.specs.declared.letter.Letter.TheVariants.{N}
 use Rattle.lie_letters.proofs.CallerLemmas.{JoinedInGroup-trans, JoinedInGroup-over}
 use Rattle.lie_unip.specs.Collection.{AreEntries, IsCollected}
 use Rattle.lie_unip.specs.PositiveLetters.{by_place}
 use Rattle.lie_bruhat.proofs.ListLemmas.{letters}
-use Rattle.lie_bruhat.proofs.PassLemmas.{joined_behind, first_over}
+use Rattle.lie_bruhat.proofs.PassLemmas.{joined_behind}
 use Rattle.lie_bruhat.proofs.TurnedLemmas.{turned_letters, collected_alone}
 use Rattle.lie_bruhat.proofs.turned.turned_list.Goals as goal
 

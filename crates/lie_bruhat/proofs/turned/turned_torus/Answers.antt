@@ -1,4 +1,4 @@
-use Rattle.std.proofs.Common.{◌≡◌, ◌++◌, ◌∷◌, [], map, sym, ap, subst, ◌∙◌}
+use Rattle.std.proofs.Common.{◌++◌, ◌∷◌, [], map, sym, ap, subst, ◌∙◌}
 use Rattle.std.proofs.lemmas.Bool.{false≢true}
 use Rattle.lie_letters.specs.declared.letter.Letter.TheVariants.{H, N}
 use Rattle.lie_letters.specs.GroupSpelled.{JoinedInGroup}
@@ -6,7 +6,7 @@ use Rattle.lie_letters.specs.SignedFrames.{SignedFrame, unsigned}
 use Rattle.lie_letters.specs.Spelled.{IsWordOver}
 use Rattle.lie_letters.proofs.CallerLemmas.{JoinedInGroup-over}
 use Rattle.lie_unip.specs.Forms.{IsShortest}
-use Rattle.lie_weyl.specs.WeylElement.{IsLeastWord, IsElement}
+use Rattle.lie_weyl.specs.WeylElement.{IsLeastWord}
 use Rattle.lie_bruhat.specs.Products.{IsTurned, KeepsPositive}
 use Rattle.lie_bruhat.proofs.SettledLemmas.{torus_product}
 use Rattle.lie_bruhat.proofs.TurnedForms.{one_image, same_torus, less_torus}
