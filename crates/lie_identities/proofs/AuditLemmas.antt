@@ -1,7 +1,6 @@
 -- What is found of one relation is what the audit answers.
-use Rattle.std.proofs.Common.{◌≡◌, ◌⊎◌, ℕ, ◌<◌, ℤ, List, length, get_or, take, refl, sym, ap, subst, ◌∙◌, inl, inr, Result, Ok, Err}
+use Rattle.std.proofs.Common.{◌≡◌, ◌⊎◌, List, refl, sym, subst, inl, inr, Result}
 use Rattle.std.specs.Prelude.{MatchResult}
-use Rattle.std.specs.List.{All}
 use Rattle.std.proofs.lemmas.Result.{MatchResult-weaker}
 use Rattle.lie_mat.specs.Wide.{IsHugeMatrix}
 use Rattle.lie_datum.specs.RootList.{RootDatum}
@@ -46,7 +45,7 @@ module _ (d : RootDatum) (c : ConstantTable) (eta : Signs) (v : Module) (q : Rel
   compared ls rs e f a b result h =
       let small = not_large (subst (λ xs. ¬ IsHugeMatrix (side_size laurent v xs)) e a) (subst (λ xs. ¬ IsHugeMatrix (side_size laurent v xs)) f b) in
       let there = subst (λ ys. MatchResult result (λ _. left_matrix d v q ≡ side_matrix laurent_variables d v ys) (IsDifference q (left_matrix d v q) (side_matrix laurent_variables d v ys))) f
-          (subst (λ xs. MatchResult result (λ _. side_matrix laurent_variables d v xs ≡ side_matrix laurent_variables d v rs) (IsDifference q (side_matrix laurent_variables d v xs) (side_matrix laurent_variables d v rs))) e h) in
+      (subst (λ xs. MatchResult result (λ _. side_matrix laurent_variables d v xs ≡ side_matrix laurent_variables d v rs) (IsDifference q (side_matrix laurent_variables d v xs) (side_matrix laurent_variables d v rs))) e h) in
       MatchResult-weaker result there (λ _ same. record { small = small; identity = same }) (λ g x. difference-fault small g x)
 
   -- the fault of the first relation that is not met
@@ -54,6 +53,9 @@ module _ (d : RootDatum) (c : ConstantTable) (eta : Signs) (v : Module) (q : Rel
   fault-of graded before NoMemory h = tt
   fault-of graded before (Graded r k row col) h = absurd h
   fault-of graded before (Large p) h = (graded, subst (AreMetBefore d c eta v) (sym h.0) before, subst (IsLarge d c eta v) (sym h.0) h.1)
-  fault-of graded before (Relation p row col et eu left right) h =
-      (graded, subst (AreMetBefore d c eta v) (sym h.0) before, subst (λ x. ¬ IsLarge d c eta v x) (sym h.0) h.1,
-      subst (λ x. IsFirstDifferentEntry (left_matrix d v x) (right_matrix d c eta v x) row col et eu left right) (sym h.0) h.2)
+  fault-of graded before (Relation p row col et eu left right) h = (
+    graded,
+    subst (AreMetBefore d c eta v) (sym h.0) before,
+    subst (λ x. ¬ IsLarge d c eta v x) (sym h.0) h.1,
+    subst (λ x. IsFirstDifferentEntry (left_matrix d v x) (right_matrix d c eta v x) row col et eu left right) (sym h.0) h.2,
+  )

@@ -1,5 +1,5 @@
 -- The sums of the columns of sizes, and what their products bound.
-use Rattle.std.proofs.Common.{◌≡◌, ◌≢◌, ℕ, zero, suc, ◌+◌, ◌-◌, ◌*◌, ◌^◌, ◌<◌, ◌≤◌, ℤ, pos, ◌+ℤ◌, nat_abs, List, [], ◌∷◌, ◌++◌, length, drop, get_or, cond, eqb, true, false, Bool, refl, sym, ap, ap₂, subst, ◌∙◌, arith, inl, inr}
+use Rattle.std.proofs.Common.{◌≡◌, ℕ, zero, suc, ◌+◌, ◌*◌, ◌^◌, ◌<◌, ◌≤◌, ℤ, pos, ◌+ℤ◌, nat_abs, List, [], ◌∷◌, ◌++◌, cond, eqb, true, false, Bool, refl, sym, ap, ap₂, subst, ◌∙◌, arith, inl, inr}
 use Rattle.std.specs.Prelude.{◌≤ℤ◌}
 use Rattle.std.specs.List.{flat_map, range_with_len}
 use Rattle.std.specs.Ordering.{int_eq}
@@ -9,7 +9,7 @@ use Rattle.std.proofs.lemmas.Bool.Decides.{Decides-int_eq}
 use Rattle.lie_ring.specs.Rings.{RingOn, sum_below}
 use Rattle.lie_ring.specs.Integers.{integers}
 use Rattle.lie_ring.specs.IntegerLaws.{integers_commutative}
-use Rattle.lie_ring.specs.SumLemmas.{sum-only, sum-same, sum-add}
+use Rattle.lie_ring.specs.SumLemmas.{sum-only, sum-same}
 use Rattle.lie_ring.specs.Matrices.{Matrix, entry, identity}
 use Rattle.lie_ring.specs.MatrixLemmas.{entry-table}
 use Rattle.lie_mat.specs.Wide.{nat_sum_below, IsHugeMatrix}
@@ -20,7 +20,7 @@ use Rattle.lie_identities.specs.AuditRelations.{Factor, size_entry, size_element
 use Rattle.lie_identities.specs.Sizes.{size_term, partial_size, steps_total, HasColumnsWithin}
 use Rattle.lie_identities.specs.StepLists.{step, step_at, steps_in, steps_of}
 use Rattle.lie_identities.proofs.SizeLemmas.{term_in_sum, column_bound-product}
-use Rattle.lie_identities.proofs.GrowingSizes.{factor_nonnegative, factor_tall, factor_broad, side_nonnegative, side_tall, side_broad}
+use Rattle.lie_identities.proofs.GrowingSizes.{factor_nonnegative, factor_broad, side_nonnegative, side_tall}
 use Rattle.lie_identities.proofs.NaturalSizes.{size_entry-natural}
 
 -- ---- sums of natural numbers

@@ -1,5 +1,5 @@
 -- What is known of the entries that are not graded, one entry, column, power and root further.
-use Rattle.std.proofs.Common.{◌≡◌, ◌≢◌, ℕ, zero, suc, ◌+◌, ◌-◌, ◌*◌, ◌<◌, ◌≤◌, ◌⊎◌, ℤ, pos, neg_ℤ, ◌^◌, length, slice_index_or, refl, sym, ap, subst, ◌∙◌, arith, inl, inr}
+use Rattle.std.proofs.Common.{◌≡◌, ℕ, zero, suc, ◌+◌, ◌-◌, ◌*◌, ◌<◌, ◌≤◌, ◌⊎◌, ℤ, pos, neg_ℤ, ◌^◌, length, sym, ap, subst, ◌∙◌, arith, inl, inr}
 use mir.Syntax.{w128}
 use mir.Val.{to_z, of_z}
 use Rattle.std.specs.Prelude.{◌-ℤ◌}
@@ -10,11 +10,9 @@ use Rattle.lie_const.proofs.SumLemmas.{neg_neg}
 use Rattle.std.proofs.lemmas.List.{get_or_past}
 use Rattle.lie_ring.specs.Matrices.{Matrix, entry, zero_matrix}
 use Rattle.lie_ring.specs.MatrixLemmas.{entry-table}
-use Rattle.lie_mat.specs.Kept.{AreZeros, IsNextKept}
+use Rattle.lie_mat.specs.Kept.{AreZeros}
 use Rattle.lie_datum.specs.Numbers.{place, number_at}
-use Rattle.lie_datum.specs.Vectors.{plus, times}
-use Rattle.lie_datum.specs.RootDatum.{vector}
-use Rattle.lie_datum.specs.RootList.{RootDatum, root_of, IsNumber}
+use Rattle.lie_datum.specs.RootList.{RootDatum, IsNumber}
 use Rattle.lie_datum.proofs.NumberLemmas.{place_within, numbered_at}
 use Rattle.lie_datum.proofs.SignedRoots.{same_place}
 use Rattle.lie_const.specs.Modules.{Module, dimension, top, divided_power, divided_powers}

@@ -1,7 +1,7 @@
 -- The list of relations, one relation further, and what its members are about.
-use Rattle.std.proofs.Common.{◌≡◌, ℕ, ◌+◌, ◌-◌, ◌*◌, ◌<◌, ◌≤◌, ℤ, neg_ℤ, List, [], ◌∷◌, ◌++◌, map, length, cond, not, ◌&&◌, ltb, true, false, Bool, refl, sym, ap, ◌∙◌, subst, arith}
-use Rattle.std.specs.List.{All, filter, flat_map, range_with_len}
-use Rattle.std.proofs.lemmas.List.{append_assoc, append-nil, map-append}
+use Rattle.std.proofs.Common.{◌≡◌, ℕ, ◌+◌, List, [], ◌∷◌, ◌++◌, map, cond, true, false, Bool, refl, sym, ap, ◌∙◌, arith}
+use Rattle.std.specs.List.{filter, flat_map, range_with_len}
+use Rattle.std.proofs.lemmas.List.{append-nil, map-append}
 use Rattle.std.proofs.lemmas.List.Concat.{flat_map-append}
 use Rattle.std.proofs.lemmas.List.FromFn.{map-range_with_len_more, filter_of_map_range_with_len_more}
 use Rattle.lie_identities.proofs.Appended.{appended}

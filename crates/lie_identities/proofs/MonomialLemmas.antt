@@ -1,20 +1,19 @@
 -- Monomials: their sizes, degrees and products, and the monomials of the terms of a commutator.
-use Rattle.std.proofs.Common.{◌≡◌, ℕ, zero, suc, ◌≤◌, max, ℤ, pos, negsuc, neg_ℤ, ◌+ℤ◌, ◌*ℤ◌, nat_abs, List, [], ◌∷◌, cond, true, false, Bool, refl, sym, ap, ap₂, subst, ◌∙◌, arith, add-zero, inl, inr, ◌⊎◌}
+use Rattle.std.proofs.Common.{◌≡◌, ℕ, zero, suc, ◌≤◌, ℤ, pos, negsuc, neg_ℤ, ◌+ℤ◌, ◌*ℤ◌, nat_abs, [], ◌∷◌, cond, true, false, Bool, refl, sym, ap, ap₂, subst, ◌∙◌, arith, add-zero, inl, inr, ◌⊎◌}
 use mir.Syntax.{w32, w128}
 use mir.Val.{to_z, of_z}
 use Rattle.std.specs.Ordering.{int_eq}
 use Rattle.std.proofs.lemmas.Int.{ints, to_z-of_z, fits_signed_from_abs}
 use Rattle.lie_datum.proofs.VectorLemmas.{abs_mul}
-use Rattle.lie_ring.specs.Rings.{RingOn}
 use Rattle.lie_ring.specs.Integers.{integers}
 use Rattle.lie_ring.specs.IntegerLaws.{integers_commutative}
 use Rattle.lie_ring.specs.RingLemmas.{mul_zero, zero_mul}
 use Rattle.lie_ring.specs.Powers.{power}
 use Rattle.lie_const.specs.declared.term.Term.{Term as CommutatorTerm}
 use Rattle.lie_const.specs.CommutatorTerms.{sign}
-use Rattle.lie_poly.specs.Terms.{Terms, Exponents, term, keep, collect, products, product_term, size_of, degree_of}
+use Rattle.lie_poly.specs.Terms.{Terms, term, keep, collect, products, size_of, degree_of}
 use Rattle.lie_poly.specs.Canonical.{zero_is}
-use Rattle.lie_poly.specs.Polynomials.{Polynomial, same_polynomial, monomial, constant, laurent, product, negative, size, degree}
+use Rattle.lie_poly.specs.Polynomials.{same_polynomial, monomial, constant, laurent, product, size, degree}
 use Rattle.lie_identities.specs.AuditRelations.{term_value}
 use Rattle.lie_identities.specs.Audit.{laurent_variables}
 use Rattle.lie_identities.specs.Sides.{IsSmallTerm}

@@ -1,5 +1,5 @@
 -- The sizes of factors as matrices of natural numbers, and where their products are huge.
-use Rattle.std.proofs.Common.{◌≡◌, ℕ, zero, suc, ◌+◌, ◌-◌, ◌*◌, ◌^◌, ◌<◌, ◌≤◌, ℤ, pos, negsuc, ◌+ℤ◌, ◌*ℤ◌, nat_abs, List, [], ◌∷◌, ◌++◌, cond, eqb, true, false, Bool, refl, sym, ap, ap₂, subst, ◌∙◌, arith, inl, inr}
+use Rattle.std.proofs.Common.{◌≡◌, ℕ, zero, suc, ◌+◌, ◌-◌, ◌*◌, ◌^◌, ◌<◌, ◌≤◌, ℤ, pos, negsuc, ◌+ℤ◌, ◌*ℤ◌, nat_abs, List, [], ◌++◌, cond, eqb, true, false, Bool, refl, sym, ap, ap₂, subst, ◌∙◌, arith}
 use Rattle.std.specs.Prelude.{◌≤ℤ◌}
 use Rattle.std.proofs.Math.Nat.{pow-zero, pow-suc}
 use Rattle.std.proofs.lemmas.Int.{ints}
@@ -8,11 +8,11 @@ use Rattle.std.proofs.lemmas.Bool.{eq-eqb}
 use Rattle.lie_ring.specs.Rings.{RingOn, sum_below}
 use Rattle.lie_ring.specs.Integers.{integers}
 use Rattle.lie_ring.specs.Powers.{power}
-use Rattle.lie_ring.specs.Matrices.{Matrix, table, entry, identity, product, AllFit}
+use Rattle.lie_ring.specs.Matrices.{Matrix, entry, identity, product, AllFit}
 use Rattle.lie_ring.specs.MatrixLemmas.{entry-table}
 use Rattle.lie_mat.specs.Wide.{nat_sum_below, IsWideProduct, IsSomewhere, IsHugeMatrix}
 use Rattle.lie_const.specs.Modules.{Module, dimension, top, divided_power}
-use Rattle.lie_weight.specs.Factors.{IsOfSize, IsNatural, HasDiagonal}
+use Rattle.lie_weight.specs.Factors.{IsOfSize, IsNatural}
 use Rattle.lie_weight.proofs.SizeLemmas.{natural_size, grows_right, wide_size}
 use Rattle.lie_identities.specs.AuditRelations.{Factor, size_entry, size_element, factor_size, side_size}
 use Rattle.lie_identities.specs.Sizes.{size_term, partial_size, IsSizes}

@@ -1,16 +1,15 @@
 -- The members of the list of relations are relations of the datum.
-use Rattle.std.proofs.Common.{◌≡◌, ◌≢◌, ℕ, zero, suc, ◌+◌, ◌*◌, ◌<◌, ◌≤◌, ltb, ℤ, neg_ℤ, List, [], ◌∷◌, ◌++◌, map, length, not, ◌&&◌, true, false, Bool, refl, sym, ap, subst, ◌∙◌, arith}
-use Rattle.std.specs.List.{All, filter, flat_map, range_with_len}
+use Rattle.std.proofs.Common.{◌≡◌, ℕ, zero, suc, ◌+◌, ◌*◌, ◌<◌, ◌≤◌, ltb, ℤ, neg_ℤ, List, [], ◌∷◌, map, length, not, ◌&&◌, true, false, Bool, refl, sym, ap, ◌∙◌, arith}
+use Rattle.std.specs.List.{All, flat_map, range_with_len}
 use Rattle.std.specs.Ordering.{int_eq}
 use Rattle.std.proofs.lemmas.Bool.{ltb-true}
 use Rattle.std.proofs.lemmas.Bool.Decides.{Decides-int_eq}
-use Rattle.std.proofs.lemmas.List.Elements.{All-nil, All-cons, All-head, All-tail, All-append, All-map, All-filter, All-weaker, filter_passes}
+use Rattle.std.proofs.lemmas.List.Elements.{All-nil, All-cons, All-head, All-tail, All-append, All-map, All-filter, filter_passes}
 use Rattle.lie_datum.specs.Numbers.{place, number_at}
 use Rattle.lie_datum.specs.RootDatum.{rank, IsSimpleIndex}
 use Rattle.lie_datum.specs.RootList.{RootDatum, IsNumber}
 use Rattle.lie_datum.proofs.NumberLemmas.{numbered_at}
 use Rattle.lie_const.specs.CommutatorTerms.{IsPair}
-use Rattle.lie_identities.specs.declared.relations.Rel.{Rel}
 use Rattle.lie_identities.specs.declared.relations.Rel.TheVariants.{S1, S2, S6, S7}
 use Rattle.lie_identities.specs.AuditRelations.{root_numbers, partners, simple_indices, relations}
 use Rattle.lie_identities.specs.Sides.{IsRelationOf}

@@ -13,7 +13,7 @@ use Rattle.lie_datum.proofs.SignedRoots.{number_is, root_is}
 use Rattle.lie_datum.proofs.VectorLemmas.{abs_mul}
 use Rattle.lie_const.specs.declared.term.Term.{Term}
 use Rattle.lie_const.specs.StructureConstants.{Table, StandsFor, coeffs_of, find_root, same_vector, IsSum}
-use Rattle.lie_const.specs.CommutatorTerms.{number_of, value_at, string_product, factorial, sign, coefficient, Fraction, IsValue, exponents, term_vector, term_exponents, IsTerm, AreTerms, IsPair}
+use Rattle.lie_const.specs.CommutatorTerms.{number_of, value_at, string_product, sign, coefficient, Fraction, IsValue, exponents, term_vector, term_exponents, IsTerm, AreTerms, IsPair}
 use Rattle.lie_const.specs.ConstantTables.{ConstantTable, LoadsConstants, value_of, terms_of}
 use Rattle.lie_const.proofs.ChainLemmas.{value_absent_left, value_absent_right}
 use Rattle.lie_const.proofs.Decisions.{root_or}
@@ -95,12 +95,23 @@ module _ (d : RootDatum) (loaded : IsLoaded d) (n : Table) (stands : StandsFor d
   all_exponents : (u v : Vector) → All (AreSmall u v) exponents
   all_exponents u v = All-from_recursion (AreSmall u v) exponents (
     (omega arith, omega arith, (chain_small u v 1 (omega arith), omega arith)),
-    ((omega arith, omega arith, (signed_small 2 (string_product d n v u 2) (chain_small v u 2 (omega arith)), omega arith)),
-    ((omega arith, omega arith, (chain_small u v 2 (omega arith), omega arith)),
-    ((omega arith, omega arith, (signed_small 3 (string_product d n v u 3) (chain_small v u 3 (omega arith)), omega arith)),
-    ((omega arith, omega arith, (chain_small u v 3 (omega arith), omega arith)),
-    ((omega arith, omega arith, (twice_small, omega arith)),
-    ((omega arith, omega arith, (chain_small (plus u v) u 2 (omega arith), omega arith)), tt)))))))
+    (
+      (omega arith, omega arith, (signed_small 2 (string_product d n v u 2) (chain_small v u 2 (omega arith)), omega arith)),
+      (
+        (omega arith, omega arith, (chain_small u v 2 (omega arith), omega arith)),
+        (
+          (omega arith, omega arith, (signed_small 3 (string_product d n v u 3) (chain_small v u 3 (omega arith)), omega arith)),
+          (
+            (omega arith, omega arith, (chain_small u v 3 (omega arith), omega arith)),
+            (
+              (omega arith, omega arith, (twice_small, omega arith)),
+              ((omega arith, omega arith, (chain_small (plus u v) u 2 (omega arith), omega arith)), tt),
+            ),
+          ),
+        ),
+      ),
+    ),
+  )
     where
       twice_small : unsigned_abs (negsuc 1 *ℤ string_product d n (plus v u) v 2) ≤ 64
       twice_small = let h = abs_mul (negsuc 1) (string_product d n (plus v u) v 2) 2 16 (omega arith) (chain_two (plus v u) v) in omega (arith, h)

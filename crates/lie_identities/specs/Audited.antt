@@ -4,7 +4,7 @@
 --   a module, and what it is audited for     AuditedModule
 --   it is audited for that                   IsAudited a
 --   the answer, as one of a module           audited_module result
-use Rattle.std.specs.Prelude.{◌≡◌, ℕ, List, take, Result, Ok, Err, ⊤}
+use Rattle.std.specs.Prelude.{◌≡◌, Result, Ok, Err, ⊤}
 use Rattle.lie_datum.specs.RootList.{RootDatum}
 use Rattle.lie_const.specs.ConstantTables.{ConstantTable}
 use Rattle.lie_const.specs.Modules.{Module, IsModule}

@@ -5,7 +5,7 @@
 --   the size of f, for X_r(f)            factor_weight x        1 for a_i^(t)
 --   its degree                           factor_depth x         0 for a_i^(t)
 --   q names roots of the datum           IsRelationOf d q
-use Rattle.std.specs.Prelude.{◌≡◌, ℕ, ◌^◌, ◌<◌, ◌≤◌, ℤ, nat_abs, List, map}
+use Rattle.std.specs.Prelude.{ℕ, ◌≤◌, nat_abs}
 use Rattle.lie_datum.specs.RootDatum.{IsSimpleIndex}
 use Rattle.lie_datum.specs.RootList.{RootDatum, IsNumber}
 use Rattle.lie_const.specs.declared.term.Term.{Term}

@@ -5,7 +5,7 @@
 --   n^k |E_r^(k)| in row a and column b              size_term v r n a b (k - 1)
 --   1 or 0, and the terms up to E_r^(m)              partial_size v r n a b m
 --   1, and what the steps of a column add            steps_total n steps
-use Rattle.std.specs.Prelude.{◌≡◌, ℕ, suc, ◌+◌, ◌*◌, ◌^◌, ◌<◌, ◌≤◌, ◌≤ℤ◌, ℤ, pos, nat_abs, List, [], ◌∷◌, cond, eqb}
+use Rattle.std.specs.Prelude.{ℕ, suc, ◌+◌, ◌*◌, ◌^◌, ◌<◌, ◌≤ℤ◌, ℤ, pos, nat_abs, List, [], ◌∷◌, cond, eqb}
 use Rattle.lie_ring.specs.Rings.{sum_below}
 use Rattle.lie_ring.specs.Integers.{integers}
 use Rattle.lie_ring.specs.Matrices.{Matrix, entry}

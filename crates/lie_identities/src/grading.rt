@@ -36,12 +36,7 @@ fn ungraded_row(steps: &Steps, r: RootId, k: u32, col: usize) -> Option<usize>
     let root = steps.datum.root(r);
     let mut from = 0;
     while let Some((row, _)) = matrix.next_kept(from, col) {
-        if !is_raised(
-            steps.module.weight(row),
-            steps.module.weight(col),
-            k,
-            root,
-        ) {
+        if !is_raised(steps.module.weight(row), steps.module.weight(col), k, root) {
             return Some(row);
         }
         from = row + 1;

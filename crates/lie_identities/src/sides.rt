@@ -181,10 +181,16 @@ pub(crate) fn left_side(alloc: Global, datum: &Datum, rel: Rel) -> Result<Side, 
 {
     let one = Side::one(alloc);
     match rel {
-        Rel::S1(r) => one.times_root(alloc, r, 1, 1, 0)?.times_root(alloc, r, 1, 0, 1),
-        Rel::S2(r, s) => one.times_root(alloc, s, 1, 0, 1)?.times_root(alloc, r, 1, 1, 0),
+        Rel::S1(r) => one
+            .times_root(alloc, r, 1, 1, 0)?
+            .times_root(alloc, r, 1, 0, 1),
+        Rel::S2(r, s) => one
+            .times_root(alloc, s, 1, 0, 1)?
+            .times_root(alloc, r, 1, 1, 0),
         Rel::S6(i) => left_of_s6(alloc, datum.simple(i)),
-        Rel::S7(i, s) => one.times_weyl(alloc, datum.simple(i))?.times_root(alloc, s, 1, 1, 0),
+        Rel::S7(i, s) => one
+            .times_weyl(alloc, datum.simple(i))?
+            .times_root(alloc, s, 1, 1, 0),
     }
 }
 
@@ -218,7 +224,9 @@ pub(crate) fn right_side(
     match rel {
         Rel::S1(r) => one.times_sum(alloc, r),
         Rel::S2(r, s) => {
-            let side = one.times_root(alloc, r, 1, 1, 0)?.times_root(alloc, s, 1, 0, 1)?;
+            let side = one
+                .times_root(alloc, r, 1, 1, 0)?
+                .times_root(alloc, s, 1, 0, 1)?;
             side.times_terms(alloc, consts.c(r, s))
         }
         Rel::S6(i) => one.times_coroot(i),

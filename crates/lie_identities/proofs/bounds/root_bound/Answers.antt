@@ -1,4 +1,4 @@
-use Rattle.std.proofs.Common.{◌≡◌, ◌+◌, pos, sym, ap, ◌∙◌, arith}
+use Rattle.std.proofs.Common.{◌+◌, pos, sym, ap, ◌∙◌, arith}
 use Rattle.lie_identities.specs.AuditRelations.{size_element}
 use Rattle.lie_identities.specs.Sizes.{steps_total}
 use Rattle.lie_identities.proofs.BoundLemmas.{column-total, columns-more}

@@ -1,11 +1,10 @@
-use Rattle.std.proofs.Common.{◌≡◌, ◌+◌, ◌<◌, ◌≤◌, ℕ, pos, [], slice_index_or, sym, ap, ap₂, subst, ◌∙◌, arith}
+use Rattle.std.proofs.Common.{◌<◌, pos, sym, ap, ap₂, subst, ◌∙◌, arith}
 use Rattle.lie_ring.specs.Matrices.{entry}
 use Rattle.lie_mat.specs.Kept.{AreZeros, IsNextKept}
 use Rattle.lie_datum.specs.Vectors.{plus, times}
 use Rattle.lie_datum.specs.RootDatum.{IsWithin}
 use Rattle.lie_const.specs.Modules.{dimension}
 use Rattle.lie_orbit.proofs.WeightLemmas.{root_within}
-use Rattle.lie_identities.specs.Audit.{IsUngraded}
 use Rattle.lie_identities.proofs.GradingLemmas.{zero-graded, past-graded, row-more}
 use Rattle.lie_identities.proofs.grading.ungraded_row.Goals as goal
 
@@ -32,7 +31,7 @@ returns-then-not-is_raised c =
         col = c.requires.col;
         nonzero = λ z. kept.nonzero (kept.here ∙ ap (λ N. entry (pos 0) N c.in-Some.row c.args.col) same ∙ z);
         weights = λ w. (let t = c.is_raised.ensures.1 (c.weight.ensures ∙ w ∙ sym (ap₂ (λ x y. plus x (times (pos c.args.k) y)) c.weight-in-Some.ensures c.root-root.ensures)) in
-        let f = c.if-not-is_raised.true in cc);
+            let f = c.if-not-is_raised.true in cc);
       };
       earlier = zero-graded d v c.args.r c.args.k c.args.col M same c.loop-row.from c.in-Some.row c.loop-row.invariant.1 kept.before;
     }
@@ -43,11 +42,12 @@ loop-row-preserved c =
     let v = c.args.steps.now.module.now in
     let M = c.power-matrix.result.now in
     let kept : IsNextKept (pos 0) M c.args.col c.loop-row.from c.in-Some.row c.in-Some.field-0-1.now = c.in-Some.ensures.next in
-    let few = c.in-Some.ensures.few in
-    (omega (arith, few),
-    row-more d v c.args.r c.args.k c.args.col c.in-Some.row
-    (zero-graded d v c.args.r c.args.k c.args.col M c.power-matrix.ensures.value c.loop-row.from c.in-Some.row c.loop-row.invariant.1 kept.before)
-    (λ u. u.weights (sym c.weight.ensures ∙ c.is_raised.ensures.0 c.if-not-is_raised.false ∙ ap₂ (λ x y. plus x (times (pos c.args.k) y)) c.weight-in-Some.ensures c.root-root.ensures)))
+    let few = c.in-Some.ensures.few in (
+      omega (arith, few),
+      row-more d v c.args.r c.args.k c.args.col c.in-Some.row
+          (zero-graded d v c.args.r c.args.k c.args.col M c.power-matrix.ensures.value c.loop-row.from c.in-Some.row c.loop-row.invariant.1 kept.before)
+          (λ u. u.weights (sym c.weight.ensures ∙ c.is_raised.ensures.0 c.if-not-is_raised.false ∙ ap₂ (λ x y. plus x (times (pos c.args.k) y)) c.weight-in-Some.ensures c.root-root.ensures)),
+    )
 
 pub returns : goal.returns
 returns c =

@@ -1,4 +1,4 @@
-use Rattle.std.proofs.Common.{◌≡◌, ◌*◌, ◌++◌, ◌∷◌, [], ℤ, ℕ, Bool, cond, map, length, ltb, not, ◌&&◌, neg_ℤ, ap, ◌∙◌, arith}
+use Rattle.std.proofs.Common.{◌≡◌, ◌*◌, ◌++◌, ◌∷◌, [], ℤ, ℕ, cond, map, length, ltb, not, ◌&&◌, neg_ℤ, ap, ◌∙◌, arith}
 use Rattle.std.specs.List.{filter, range_with_len}
 use Rattle.std.specs.Ordering.{int_eq}
 use Rattle.lie_datum.specs.Numbers.{place, number_at}

@@ -10,7 +10,6 @@ use Rattle.lie_const.specs.Signs.{eta_of, image}
 use Rattle.lie_const.proofs.FoundRoots.{number_of_is}
 use Rattle.lie_const.proofs.SpecialLemmas.{abs_number}
 use Rattle.lie_poly.specs.Polynomials.{Polynomial, constant, monomial, laurent}
-use Rattle.lie_identities.specs.declared.relations.Rel.TheVariants.{S2, S7}
 use Rattle.lie_identities.specs.AuditRelations.{Factor, RootElement}
 use Rattle.lie_identities.specs.Audit.{laurent_variables, right_factors}
 use Rattle.lie_identities.specs.Sides.{IsRelationOf, IsSmallTerm}

@@ -1,4 +1,4 @@
-use Rattle.std.proofs.Common.{◌≡◌, ◌+◌, ◌*◌, ◌^◌, ◌≤◌, pos, nat_abs, ap, arith}
+use Rattle.std.proofs.Common.{◌+◌, ◌*◌, ◌^◌, ◌≤◌, pos, nat_abs, ap, arith}
 use Rattle.lie_ring.specs.Matrices.{entry}
 use Rattle.lie_const.specs.Modules.{top}
 use Rattle.lie_identities.proofs.NaturalSizes.{partial-more, partial-grows}

@@ -2,7 +2,7 @@ use Rattle.std.proofs.Common.{◌≡◌, ℕ, Err, refl, sym, ap, subst, ◌∙�
 use Rattle.lie_ring.specs.declared.rings.RingStop.{RingStop}
 use Rattle.lie_ring.specs.Integers.{integers}
 use Rattle.lie_ring.specs.IntegerLaws.{integers_ring}
-use Rattle.lie_ring.specs.Matrices.{Matrix, identity, product}
+use Rattle.lie_ring.specs.Matrices.{identity, product}
 use Rattle.lie_ring.specs.MatrixLaws.{one-product}
 use Rattle.lie_mat.specs.Wide.{IsWideProduct, IsHugeMatrix}
 use Rattle.lie_mat.proofs.KeptLemmas.{told-err}

@@ -1,4 +1,4 @@
-use Rattle.std.proofs.Common.{◌≤◌, refl, arith}
+use Rattle.std.proofs.Common.{◌≤◌}
 use Rattle.lie_poly.specs.Polynomials.{Polynomial}
 use Rattle.lie_identities.specs.AuditRelations.{Factor, RootElement}
 use Rattle.lie_identities.specs.Sides.{factor_weight, factor_depth}

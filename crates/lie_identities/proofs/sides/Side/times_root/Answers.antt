@@ -1,6 +1,6 @@
 use mir.Syntax.{w32, w128}
 use mir.Val.{to_z, of_z}
-use Rattle.std.proofs.Common.{◌≡◌, ◌≤◌, nat_abs, ap, sym, subst, ◌∙◌, arith}
+use Rattle.std.proofs.Common.{◌≤◌, nat_abs, ap, sym, subst, ◌∙◌, arith}
 use Rattle.lie_poly.specs.Polynomials.{Polynomial, size, degree}
 use Rattle.lie_identities.proofs.MonomialLemmas.{size-monomial, degree-monomial, small128, small32}
 use Rattle.lie_identities.proofs.sides.Side.times_root.Goals as goal
