@@ -1,11 +1,10 @@
 -- The sum of two modules, block by block.
-use Rattle.std.proofs.Common.{◌≡◌, ◌≢◌, ℕ, zero, suc, ◌+◌, ◌-◌, ◌*◌, ◌<◌, ◌≤◌, ℤ, pos, List, [], ◌∷◌, ◌++◌, map, length, get_or, refl, sym, ap, ap₂, subst, ◌∙◌, arith, ◌⊎◌, inl, inr, ⊎_elim, length-append, replicate, max, Bool, true, false, cond, ltb}
+use Rattle.std.proofs.Common.{◌≡◌, ◌≢◌, ℕ, zero, suc, ◌+◌, ◌-◌, ◌*◌, ◌<◌, ◌≤◌, ℤ, pos, List, [], ◌∷◌, ◌++◌, map, length, get_or, refl, sym, ap, ap₂, subst, ◌∙◌, arith, ◌⊎◌, ⊎_elim, length-append, replicate, max, Bool, true, false, cond, ltb}
 use Rattle.std.proofs.Math.Nat.{le-max_left, le-max_right, max-le}
 use Rattle.std.proofs.lemmas.Bool.{lt-ltb, le-ltb, ltb-true, ltb-false}
 use Rattle.std.specs.List.{All, range_with_len}
 use Rattle.std.proofs.lemmas.List.FromFn.{get_or-map-range_with_len, length-map-range_with_len}
 use Rattle.std.proofs.lemmas.List.Elements.{All-append}
-use Rattle.lie_ring.specs.Rings.{Fits}
 use Rattle.lie_ring.specs.Integers.{integers}
 use Rattle.lie_ring.specs.Matrices.{Matrix, table, entry, zero_matrix, direct_sum, direct_sum_entry, AllFit, IsShaped}
 use Rattle.lie_ring.specs.MatrixLemmas.{entry-table, table-same, table-shaped, map-range-last}
@@ -215,9 +214,9 @@ pub sum_filled : (v w : Module) (m : ℕ) (ws : List Vector) (Mss : List (List (
 sum_filled v w m ws Mss n p e f l =
     let a : ◌≡◌ {A = Module} (record { positive = m; weights = ws; powers = Mss }) (record { positive = m; weights = v.weights ++ w.weights; powers = Mss }) = ap (λ (t : List Vector). record { positive = m; weights = t; powers = Mss }) e in
     let b : ◌≡◌ {A = Module} (record { positive = m; weights = v.weights ++ w.weights; powers = Mss }) (record { positive = m; weights = v.weights ++ w.weights; powers = map (λ i. sum_powers v w (number_at m i)) (range_with_len 0 (2 * m)) }) =
-        ap (λ (t : List (List (Matrix ℤ))). record { positive = m; weights = v.weights ++ w.weights; powers = t }) (f ∙ ap (λ t. map (λ i. sum_powers v w (number_at m i)) (range_with_len 0 t)) l) in
+    ap (λ (t : List (List (Matrix ℤ))). record { positive = m; weights = v.weights ++ w.weights; powers = t }) (f ∙ ap (λ t. map (λ i. sum_powers v w (number_at m i)) (range_with_len 0 t)) l) in
     let c : ◌≡◌ {A = Module} (record { positive = m; weights = v.weights ++ w.weights; powers = map (λ i. sum_powers v w (number_at m i)) (range_with_len 0 (2 * m)) }) (module_sum v w) =
-        ap (λ (t : ℕ). record { positive = t; weights = v.weights ++ w.weights; powers = map (λ i. sum_powers v w (number_at t i)) (range_with_len 0 (2 * t)) }) p in
+    ap (λ (t : ℕ). record { positive = t; weights = v.weights ++ w.weights; powers = map (λ i. sum_powers v w (number_at t i)) (range_with_len 0 (2 * t)) }) p in
     a ∙ b ∙ c
 
 -- the whole sum

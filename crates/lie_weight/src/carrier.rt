@@ -32,16 +32,11 @@ fn precedes(datum: &Datum, q: RootId, j: u32, r: RootId, k: u32) -> bool
         datum.height(q).unsigned_abs(),
         datum.height(r).unsigned_abs(),
     );
-    low < high
-        || low == high && (q.place(positive) < r.place(positive) || q == r && j < k)
+    low < high || low == high && (q.place(positive) < r.place(positive) || q == r && j < k)
 }
 
 /// The first of two places, where the first one may be missing.
-fn earlier(
-    datum: &Datum,
-    first: Option<(RootId, u32)>,
-    other: (RootId, u32),
-) -> (RootId, u32)
+fn earlier(datum: &Datum, first: Option<(RootId, u32)>, other: (RootId, u32)) -> (RootId, u32)
     requires first { IfSome first (λ p. IsNumber datum.now p.0) }
     requires other { IsNumber datum.now other.0 }
     ensures { IsFirstOf datum.now first other.0 other.1 result }

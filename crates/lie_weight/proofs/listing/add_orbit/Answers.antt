@@ -1,8 +1,7 @@
-use Rattle.std.proofs.Common.{◌≡◌, suc, ◌+◌, ◌<◌, ◌≤◌, ◌∷◌, [], ◌++◌, List, map, length, refl, sym, ap, subst, ◌∙◌, arith, rules}
+use Rattle.std.proofs.Common.{◌≡◌, suc, ◌+◌, ◌∷◌, [], ◌++◌, map, length, refl, sym, ap, subst, ◌∙◌, arith, rules}
 use Rattle.std.proofs.lemmas.Result.{err_from_is_err_and}
 use Rattle.std.proofs.lemmas.List.{map_push}
-use Rattle.lie_datum.specs.Vectors.{Vector, unit}
-use Rattle.lie_const.specs.Adjoint.{adjoint_dimension}
+use Rattle.lie_datum.specs.Vectors.{unit}
 use Rattle.lie_orbit.specs.Lowering.{Lowers}
 use Rattle.lie_weight.specs.Carriers.{joined, IsPassedOver}
 use Rattle.lie_weight.specs.CarrierParts.{IsOldAxis, IsListing}
@@ -37,9 +36,11 @@ returns-then-more-gt-LIMIT-clause-fault c =
     let d = c.args.datum.now in
     let a = (goal.at.returns-then-more-gt-LIMIT-clause-fault c).In-Some in
     let os = map (λ o. o.items) c.args.orbits.now.items in
-    let e : c.len.result ≡ length c.in_ok-members.members.items = let l = c.len.ensures in search rules in
-    (refl, wide_listed d c.args.axis os c.requires.listing c.in-Some.weight (lowers_is a) (new_is a) c.loaded.ensures (let l = c.requires.axis in omega (arith, l)) c.in_ok-members.members.items c.in_ok-members.ensures.orbit
-    (let t = c.if-more-gt-LIMIT.true in let n = c.requires.count in omega (arith, t, n, e)))
+    let e : c.len.result ≡ length c.in_ok-members.members.items = let l = c.len.ensures in search rules in (
+      refl,
+      wide_listed d c.args.axis os c.requires.listing c.in-Some.weight (lowers_is a) (new_is a) c.loaded.ensures (let l = c.requires.axis in omega (arith, l)) c.in_ok-members.members.items c.in_ok-members.ensures.orbit
+          (let t = c.if-more-gt-LIMIT.true in let n = c.requires.count in omega (arith, t, n, e)),
+    )
 
 pushed : (c : In_ok-push) → map (λ o. o.items) c.push.new.self.items ≡ map (λ o. o.items) c.args.orbits.now.items ++ c.in_ok-members.members.items ∷ []
 pushed c = ap (λ l. map (λ o. o.items) l) c.in_ok-push.ensures.items ∙ map_push (λ o. o.items) c.args.orbits.now.items c.in_ok-members.members

@@ -20,9 +20,11 @@ answer_is c = c.contains.ensures.value ∙ ap (λ (ws : List Vector). list_any (
 pub returns-then-contains : goal.returns-then-contains
 returns-then-contains c =
     let a = (goal.at.returns-then-contains c).After-contains in
-    let os = map (λ o. o.items) c.args.orbits.now in
-    (λ _. in_list os c.loop-orbit.orbit-index c.args.weight.now (let l = within_is a in let n = length-map c.args.orbits.now (λ o. o.items) in omega (arith, l, n))
-    (subst (λ o. Contains o c.args.weight.now) (sym (item_is a)) (found c.args.weight.now c.orbit-item.result.items c.contains.result (answer_is a) c.if-contains.true)), λ _. refl)
+    let os = map (λ o. o.items) c.args.orbits.now in (
+      λ _. in_list os c.loop-orbit.orbit-index c.args.weight.now (let l = within_is a in let n = length-map c.args.orbits.now (λ o. o.items) in omega (arith, l, n))
+          (subst (λ o. Contains o c.args.weight.now) (sym (item_is a)) (found c.args.weight.now c.orbit-item.result.items c.contains.result (answer_is a) c.if-contains.true)),
+      λ _. refl,
+    )
 
 pub loop-orbit-preserved : goal.loop-orbit-preserved
 loop-orbit-preserved c =

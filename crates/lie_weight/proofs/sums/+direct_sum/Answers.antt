@@ -1,4 +1,4 @@
-use Rattle.std.proofs.Common.{◌+◌, ◌≤◌, [], ◌∷◌, length, ap, subst, ◌∙◌, arith, rules}
+use Rattle.std.proofs.Common.{[], ◌∷◌, ap, subst, arith, rules}
 use Rattle.std.specs.List.{All}
 use Rattle.std.proofs.lemmas.List.Elements.{All-tail}
 use Rattle.lie_const.specs.Modules.{Module, IsModule, dimension}
@@ -14,9 +14,10 @@ direct_sum-requires t c =
     let fewer = split.1 in
     let n = dimensions-cons v c.args.others.now in
     let m = ap dimensions split.0 in
-    let few = c.requires.few in
-    ((let l = split.1 in search rules),
-    (subst (All (IsModule c.args.datum.now)) split.0 (All-tail (IsModule c.args.datum.now) v c.args.others.now c.requires.modules), omega (arith, n, m, few)))
+    let few = c.requires.few in (
+      (let l = split.1 in search rules),
+      (subst (All (IsModule c.args.datum.now)) split.0 (All-tail (IsModule c.args.datum.now) v c.args.others.now c.requires.modules), omega (arith, n, m, few)),
+    )
 
 pub sum-requires-clause-few : goal.sum-requires-clause-few
 sum-requires-clause-few t c =

@@ -16,9 +16,10 @@ loop-k-preserved c =
     let one : k + 1 ≡ suc k = omega arith in
     let S = c.in_ok-sum.sum in
     let value : S ≡ sum_power v w c.args.r (k + 1) = c.in_ok-sum.ensures.value ∙ ap₂ (direct_sum (pos 0)) c.power_or-first.ensures.value c.power_or-second.ensures.value in
-    let square = blocks_square (dimension v) (dimension w) c.power_or-first.result.now c.power_or-second.result.now S c.power_or-first.ensures.square c.power_or-second.ensures.square c.in_ok-sum.ensures.value c.in_ok-sum.ensures.fit in
-    (powers_push v w c.args.r k (k + 1) c.loop-k.powers.items c.push.new.self.items S one c.loop-k.invariant.0 (value ∙ ap (sum_power v w c.args.r) one) c.in_ok-push.ensures.items,
-    subst (All (IsSquare (dimension v + dimension w))) (sym c.in_ok-push.ensures.items) (all_push (IsSquare (dimension v + dimension w)) c.loop-k.powers.items S c.loop-k.invariant.1 square))
+    let square = blocks_square (dimension v) (dimension w) c.power_or-first.result.now c.power_or-second.result.now S c.power_or-first.ensures.square c.power_or-second.ensures.square c.in_ok-sum.ensures.value c.in_ok-sum.ensures.fit in (
+      powers_push v w c.args.r k (k + 1) c.loop-k.powers.items c.push.new.self.items S one c.loop-k.invariant.0 (value ∙ ap (sum_power v w c.args.r) one) c.in_ok-push.ensures.items,
+      subst (All (IsSquare (dimension v + dimension w))) (sym c.in_ok-push.ensures.items) (all_push (IsSquare (dimension v + dimension w)) c.loop-k.powers.items S c.loop-k.invariant.1 square),
+    )
 
 pub returns-clause-kept : goal.returns-clause-kept
 returns-clause-kept c =

@@ -2,11 +2,10 @@
 use Rattle.std.proofs.Common.{◌≡◌, suc, ◌+◌, ◌*◌, ◌++◌, map, sym, ap, subst, ◌∙◌, arith}
 use Rattle.std.proofs.lemmas.List.{map_push}
 use Rattle.std.specs.List.{All}
-use Rattle.lie_datum.specs.Numbers.{number_at}
 use Rattle.lie_const.specs.Modules.{dimension, Module}
-use Rattle.lie_weight.specs.Kept.{ArePowers, IsKeptModule, kept_module}
+use Rattle.lie_weight.specs.Kept.{ArePowers, IsKeptModule}
 use Rattle.lie_weight.specs.Sums.{IsSum}
-use Rattle.lie_weight.specs.CarrierParts.{sum_powers, module_sum}
+use Rattle.lie_weight.specs.CarrierParts.{sum_powers}
 use Rattle.lie_weight.proofs.ModuleSums.{roots_push, all_push, sum_filled, sum_kept, sum_is}
 use Rattle.lie_weight.proofs.sums.sum.Goals as goal
 
@@ -19,9 +18,10 @@ loop-place-preserved c =
     let more = c.in_ok-root_powers.field-0 in
     let xs = c.loop-place.powers.items in
     let value = c.in_ok-root_powers.ensures.value ∙ ap (sum_powers v w) c.at-r.ensures in
-    let pushed = ap (map (λ l. l.items)) c.in_ok-push.ensures.items ∙ map_push (λ l. l.items) xs more in
-    (roots_push v w c.m-positive.result p (p + 1) (map (λ l. l.items) xs) (map (λ l. l.items) c.push.new.self.items) more.items one c.loop-place.invariant.0 value pushed,
-    subst (All (ArePowers (dimension v + dimension w))) (sym pushed) (all_push (ArePowers (dimension v + dimension w)) (map (λ l. l.items) xs) more.items c.loop-place.invariant.1 c.in_ok-root_powers.ensures.kept))
+    let pushed = ap (map (λ l. l.items)) c.in_ok-push.ensures.items ∙ map_push (λ l. l.items) xs more in (
+      roots_push v w c.m-positive.result p (p + 1) (map (λ l. l.items) xs) (map (λ l. l.items) c.push.new.self.items) more.items one c.loop-place.invariant.0 value pushed,
+      subst (All (ArePowers (dimension v + dimension w))) (sym pushed) (all_push (ArePowers (dimension v + dimension w)) (map (λ l. l.items) xs) more.items c.loop-place.invariant.1 c.in_ok-root_powers.ensures.kept),
+    )
 
 pub invariant_of-result : goal.invariant_of-result
 invariant_of-result c =
