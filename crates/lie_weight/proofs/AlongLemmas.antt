@@ -1,5 +1,5 @@
 -- Modules with steps along the same weights are one, and the first place that is huge is one.
-use Rattle.std.proofs.Common.{◌≡◌, ℕ, suc, ◌<◌, ◌≤◌, ℤ, List, length, sym, subst, ◌∙◌, arith, ◌⊎◌, inl, inr, ⊎_elim}
+use Rattle.std.proofs.Common.{◌≡◌, ℕ, suc, ◌≤◌, ℤ, List, length, sym, ◌∙◌, arith, ◌⊎◌, inl, inr, ⊎_elim}
 use Rattle.lie_datum.specs.Vectors.{Vector}
 use Rattle.lie_datum.specs.Numbers.{place}
 use Rattle.lie_datum.specs.RootList.{RootDatum, IsNumber, IsLoaded}

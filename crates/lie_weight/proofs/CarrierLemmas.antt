@@ -1,11 +1,11 @@
 -- How the carrier is made: its orbits, one after the other, and their modules.
-use Rattle.std.proofs.Common.{◌≡◌, ℕ, zero, suc, ◌+◌, ◌-◌, ◌<◌, ◌≤◌, ℤ, List, [], ◌∷◌, ◌++◌, map, length, get_or, refl, sym, ap, subst, ◌∙◌, arith, ◌⊎◌, inl, inr, ⊎_elim, length-append, append_assoc, take, unsigned_abs, Result, Ok, Err, Option, None, Some}
+use Rattle.std.proofs.Common.{◌≡◌, ℕ, zero, suc, ◌+◌, ◌-◌, ◌<◌, ◌≤◌, ℤ, List, [], ◌∷◌, ◌++◌, map, length, get_or, refl, sym, ap, subst, ◌∙◌, arith, ◌⊎◌, inl, inr, ⊎_elim, length-append, append_assoc, take, unsigned_abs, Ok, Err, Option, None, Some}
 use Rattle.std.specs.Prelude.{IfSome}
 use Rattle.std.proofs.lemmas.Bool.{cases_lt}
-use Rattle.std.proofs.lemmas.List.{map-append, get_or_default, get_or-append-add, get_or_append_left, take_more}
+use Rattle.std.proofs.lemmas.List.{map-append, get_or_default, take_more}
 use Rattle.std.proofs.lemmas.List.Elements.{All-append}
-use Rattle.std.proofs.Math.ListN.{get_or-map, length-map}
-use Rattle.std.specs.List.{All, Contains}
+use Rattle.std.proofs.Math.ListN.{length-map}
+use Rattle.std.specs.List.{All}
 use Rattle.std.proofs.lemmas.List.FromFn.{length-map-range_with_len}
 use Rattle.lie_base.proofs.Members.{In, here, there}
 use Rattle.lie_datum.specs.Vectors.{Vector, unit}
@@ -13,7 +13,7 @@ use Rattle.lie_datum.specs.Numbers.{place}
 use Rattle.lie_datum.specs.RootDatum.{IsWithin}
 use Rattle.lie_datum.specs.RootList.{RootDatum, IsLoaded, IsNumber}
 use Rattle.lie_datum.proofs.ClosureLemmas.{in_from_contains, contains_from_in, in_left, in_right, in_at, in_last}
-use Rattle.lie_const.specs.Modules.{Module, IsModule, dimension}
+use Rattle.lie_const.specs.Modules.{Module, IsModule}
 use Rattle.lie_const.specs.Adjoint.{adjoint_dimension, basis_vector, basis_weight, IsAdjointOf}
 use Rattle.lie_const.specs.Signs.{Signs}
 use Rattle.lie_orbit.specs.Lowering.{Lowers}
@@ -22,16 +22,15 @@ use Rattle.lie_orbit.specs.declared.faults.OrbitFault.{OrbitFault}
 use Rattle.lie_orbit.specs.declared.faults.OrbitFault.TheVariants as orbit
 use Rattle.lie_weight.specs.declared.faults.ModuleFault.{ModuleFault}
 use Rattle.lie_weight.specs.declared.faults.ModuleFault.TheVariants.{NoMemory, NotMinuscule, Wide, Heavy, Huge}
-use Rattle.lie_weight.specs.Conjugation.{absolute_height, Precedes}
-use Rattle.lie_weight.specs.OrbitModules.{IsOrbitModule}
+use Rattle.lie_weight.specs.Conjugation.{Precedes}
 use Rattle.lie_weight.specs.OrbitFaults.{IsHeavyWeight, IsHeavyAt, IsFirstHugeAlong, module_fault}
 use Rattle.lie_weight.specs.Along.{AreSteppable, IsMade, IsMadeAlong, IsFaultAlong, huge_place}
 use Rattle.lie_weight.specs.Sums.{IsDirectSum}
-use Rattle.lie_weight.specs.Carriers.{joined, IsPassedOver, AreOrbitsOf, no_axis, passed_over, taken, IsModuleOfOrbit, IsCarrier, IsWideCarrier, AreCarrierWeights, IsHeavyCarrier, IsLightCarrier, IsHugeAt, IsHugeCarrier, LoadsCarrier}
+use Rattle.lie_weight.specs.Carriers.{joined, IsPassedOver, AreOrbitsOf, no_axis, passed_over, taken, IsWideCarrier, AreCarrierWeights, IsHeavyCarrier, IsLightCarrier, IsHugeAt, IsHugeCarrier, LoadsCarrier}
 use Rattle.lie_weight.specs.CarrierParts.{dimensions, IsOldAxis, IsListing, IsListingFault, AreMade, IsFirstHugeOf, IsMadeOf, IsFirstOf, IsMakingFault}
 use Rattle.lie_weight.proofs.AlongLemmas.{trichotomy, not_huge, not_before, one_huge}
 use Rattle.lie_weight.proofs.CarrierOrbits.{in_joined, joined-last, split_last, orbit_of, orbit_distinct, wide, one_list}
-use Rattle.lie_weight.proofs.ModuleSums.{direct_sum-weights, direct_sum-dimension}
+use Rattle.lie_weight.proofs.ModuleSums.{direct_sum-weights}
 
 -- ---- one axis more
 pub listing_old : (d : RootDatum) (n : ℕ) (os : List (List Vector)) → IsListing d n os → IsOldAxis d (suc n) os → IsListing d (suc n) os

@@ -7,7 +7,7 @@ use Rattle.std.specs.declared.cmp.Ordering.TheVariants.{Less}
 use Rattle.std.proofs.lemmas.Cmp.{tied_itself}
 use Rattle.lie_base.proofs.RingSolver.{ring, var, neg, ◌⊕◌, ◌⊗◌}
 use Rattle.lie_base.proofs.Members.{In, here, there, HasNoRepeats}
-use Rattle.lie_datum.specs.Vectors.{Vector, pairing, plus, times, entry, unit}
+use Rattle.lie_datum.specs.Vectors.{Vector, pairing, times, entry, unit}
 use Rattle.lie_datum.specs.declared.root_pair.Root.{Root}
 use Rattle.lie_datum.specs.RootDatum.{Base, rank, simple_root, simple_coroot, vector, IsSimpleIndex, IsRoot, is_simple, is_reflected}
 use Rattle.lie_datum.specs.RootList.{RootDatum, IsLoaded, IsNumber, root_of}

@@ -1,5 +1,5 @@
 -- What the code's tests of weights say: whether one is 0, and whether it is in a list.
-use Rattle.std.proofs.Common.{◌≡◌, ℕ, zero, suc, ◌+◌, ◌-◌, ◌<◌, ◌≤◌, ℤ, pos, Bool, true, false, ◌||◌, List, [], ◌∷◌, length, get_or, set, replicate, map, refl, sym, ap, subst, ◌∙◌, arith, ◌⊎◌, ⊎_elim, ◌↔◌, IsTrue, unsigned_abs}
+use Rattle.std.proofs.Common.{◌≡◌, ℕ, zero, suc, ◌+◌, ◌-◌, ◌<◌, ◌≤◌, pos, Bool, true, false, ◌||◌, List, [], ◌∷◌, length, get_or, set, replicate, map, refl, sym, ap, subst, ◌∙◌, arith, ⊎_elim, ◌↔◌, IsTrue}
 use Rattle.std.proofs.lemmas.List.{get_or_default}
 use Rattle.std.proofs.Math.ListN.{get_or-map, length-map}
 use Rattle.std.specs.List.{Any, Contains, list_any}

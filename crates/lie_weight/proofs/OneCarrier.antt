@@ -1,5 +1,5 @@
 -- A datum has one answer of `Module::carrier` for its signs, want of memory aside.
-use Rattle.std.proofs.Common.{◌≡◌, ◌≢◌, ℕ, zero, suc, ◌+◌, ◌<◌, ◌≤◌, ℤ, pos, List, [], ◌∷◌, ◌++◌, map, length, get_or, refl, sym, ap, ap₂, subst, ◌∙◌, arith, ◌⊎◌, ⊎_elim, length-append, Result, Ok, Err}
+use Rattle.std.proofs.Common.{◌≡◌, ◌≢◌, ℕ, zero, suc, ◌≤◌, ℤ, pos, List, [], ◌∷◌, ◌++◌, map, length, refl, sym, ap, subst, ◌∙◌, arith, ⊎_elim, length-append, Result, Ok, Err}
 use Rattle.std.specs.List.{All}
 use Rattle.std.proofs.lemmas.List.FromFn.{length-map-range_with_len}
 use Rattle.lie_ring.specs.Matrices.{table, entry, zero_matrix}
@@ -12,10 +12,9 @@ use Rattle.lie_const.specs.Signs.{Signs}
 use Rattle.lie_orbit.proofs.OneOrbit.{order}
 use Rattle.lie_weight.specs.declared.faults.ModuleFault.{ModuleFault}
 use Rattle.lie_weight.specs.declared.faults.ModuleFault.TheVariants.{NoMemory, NotMinuscule, Wide, Heavy, Huge}
-use Rattle.lie_weight.specs.OrbitModules.{IsOrbitModule}
 use Rattle.lie_weight.specs.OrbitFaults.{IsHeavyAt}
 use Rattle.lie_weight.specs.Sums.{IsSum, IsNothing, IsDirectSum}
-use Rattle.lie_weight.specs.Carriers.{joined, AreOrbitsOf, IsModuleOfOrbit, IsCarrier, IsWideCarrier, AreCarrierWeights, IsHeavyCarrier, IsLightCarrier, IsHugeAt, IsHugeCarrier, LoadsCarrier, LoadsCarrierOneWay}
+use Rattle.lie_weight.specs.Carriers.{joined, IsModuleOfOrbit, IsCarrier, IsWideCarrier, AreCarrierWeights, IsHeavyCarrier, IsHugeCarrier, LoadsCarrier, LoadsCarrierOneWay}
 use Rattle.lie_weight.proofs.UniqueLemmas.{one_module}
 use Rattle.lie_weight.proofs.AlongLemmas.{trichotomy, one_made}
 use Rattle.lie_weight.proofs.DraftLemmas.{past_end}

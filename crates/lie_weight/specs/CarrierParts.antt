@@ -1,6 +1,6 @@
 -- How the carrier is made.
 -- For proofs: no public clause cites it.
-use Rattle.std.specs.Prelude.{◌≡◌, ◌⊎◌, ℕ, suc, ◌+◌, ◌*◌, ◌<◌, ◌≤◌, ℤ, pos, List, ◌++◌, map, max, length, Option, None, Some, ⊤}
+use Rattle.std.specs.Prelude.{◌≡◌, ◌⊎◌, ℕ, suc, ◌+◌, ◌*◌, ◌≤◌, ℤ, pos, List, ◌++◌, map, max, length, Option, None, Some, ⊤}
 use Rattle.std.specs.List.{All, Contains, range_with_len}
 use Rattle.lie_ring.specs.Matrices.{Matrix, direct_sum}
 use Rattle.lie_datum.specs.Vectors.{Vector, unit}

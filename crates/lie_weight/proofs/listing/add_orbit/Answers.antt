@@ -1,8 +1,7 @@
-use Rattle.std.proofs.Common.{◌≡◌, suc, ◌+◌, ◌<◌, ◌≤◌, ◌∷◌, [], ◌++◌, List, map, length, refl, sym, ap, subst, ◌∙◌, arith, rules}
+use Rattle.std.proofs.Common.{◌≡◌, suc, ◌+◌, ◌∷◌, [], ◌++◌, map, length, refl, sym, ap, subst, ◌∙◌, arith, rules}
 use Rattle.std.proofs.lemmas.Result.{err_from_is_err_and}
 use Rattle.std.proofs.lemmas.List.{map_push}
-use Rattle.lie_datum.specs.Vectors.{Vector, unit}
-use Rattle.lie_const.specs.Adjoint.{adjoint_dimension}
+use Rattle.lie_datum.specs.Vectors.{unit}
 use Rattle.lie_orbit.specs.Lowering.{Lowers}
 use Rattle.lie_weight.specs.Carriers.{joined, IsPassedOver}
 use Rattle.lie_weight.specs.CarrierParts.{IsOldAxis, IsListing}

@@ -1,4 +1,4 @@
-use Rattle.std.proofs.Common.{◌≡◌, map, length, ap, arith}
+use Rattle.std.proofs.Common.{map, length, ap, arith}
 use Rattle.lie_weight.specs.Carriers.{joined}
 use Rattle.lie_weight.proofs.CarrierLemmas.{listing_start}
 use Rattle.lie_weight.proofs.listing.carrier_orbits.Goals as goal

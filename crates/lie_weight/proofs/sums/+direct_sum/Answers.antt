@@ -1,4 +1,4 @@
-use Rattle.std.proofs.Common.{◌+◌, ◌≤◌, [], ◌∷◌, length, ap, subst, ◌∙◌, arith, rules}
+use Rattle.std.proofs.Common.{[], ◌∷◌, ap, subst, arith, rules}
 use Rattle.std.specs.List.{All}
 use Rattle.std.proofs.lemmas.List.Elements.{All-tail}
 use Rattle.lie_const.specs.Modules.{Module, IsModule, dimension}

@@ -2,11 +2,10 @@
 use Rattle.std.proofs.Common.{◌≡◌, suc, ◌+◌, ◌*◌, ◌++◌, map, sym, ap, subst, ◌∙◌, arith}
 use Rattle.std.proofs.lemmas.List.{map_push}
 use Rattle.std.specs.List.{All}
-use Rattle.lie_datum.specs.Numbers.{number_at}
 use Rattle.lie_const.specs.Modules.{dimension, Module}
-use Rattle.lie_weight.specs.Kept.{ArePowers, IsKeptModule, kept_module}
+use Rattle.lie_weight.specs.Kept.{ArePowers, IsKeptModule}
 use Rattle.lie_weight.specs.Sums.{IsSum}
-use Rattle.lie_weight.specs.CarrierParts.{sum_powers, module_sum}
+use Rattle.lie_weight.specs.CarrierParts.{sum_powers}
 use Rattle.lie_weight.proofs.ModuleSums.{roots_push, all_push, sum_filled, sum_kept, sum_is}
 use Rattle.lie_weight.proofs.sums.sum.Goals as goal
 
