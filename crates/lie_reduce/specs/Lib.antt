@@ -1,0 +1,3 @@
+pub mod Triangular
+pub mod Elimination
+pub mod Factors
