@@ -164,8 +164,8 @@ pub(crate) fn audit_orbit(
 }
 
 /// Writes an answer: the dimension, or the fault.
-fn write(result: Result<Audited, AuditFault>, answer: &mut Answer) -> Result<(), Stop> {
-    match result {
+fn write(found: Result<Audited, AuditFault>, answer: &mut Answer) -> Result<(), Stop> {
+    match found {
         Ok(audited) => {
             answer.word("audited, dimension")?;
             answer.number(audited.module().dim() as i128)?;
