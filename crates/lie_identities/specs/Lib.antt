@@ -1,3 +1,5 @@
 pub mod AuditRelations
 pub mod Audit
 pub mod LightModules
+pub mod Covers
+pub mod CoverParts

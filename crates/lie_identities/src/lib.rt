@@ -8,10 +8,14 @@
 //! `lie_datum` and `thiserror`.
 #![tactic(auto)]
 
+mod covering;
 mod faults;
 mod laws;
 mod relations;
 
+pub use covering::CoverFault;
 pub use faults::AuditFault;
-pub use laws::{adjoint_is_light, one_audit_answer, orbit_is_light};
+pub use laws::{
+    adjoint_is_light, carrier_is_light, carriers_cover_axes, one_audit_answer, orbit_is_light,
+};
 pub use relations::Rel;
