@@ -32,3 +32,5 @@ pub mod GradingLemmas
 pub mod NaturalSizes
 pub mod BoundLemmas
 pub mod AuditLemmas
+pub mod CoveredAxes
+pub mod CoverLemmas

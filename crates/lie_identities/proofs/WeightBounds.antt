@@ -1,5 +1,5 @@
 -- The weights of built modules have small coordinates.
-use Rattle.std.proofs.Common.{◌≡◌, ℕ, ◌+◌, ◌-◌, ◌<◌, ◌≤◌, pos, [], get_or, replicate, sym, ap, subst, ◌∙◌, arith, unsigned_abs, inl, inr, zero-add}
+use Rattle.std.proofs.Common.{◌≡◌, ℕ, ◌+◌, ◌-◌, ◌<◌, ◌≤◌, pos, List, [], get_or, replicate, sym, ap, subst, ◌∙◌, arith, unsigned_abs, inl, inr, zero-add}
 use Rattle.std.specs.List.{All, range_with_len}
 use Rattle.std.proofs.lemmas.Bool.{cases_lt}
 use Rattle.std.proofs.lemmas.List.{get_or_default}
@@ -11,8 +11,8 @@ use Rattle.lie_datum.specs.RootList.{root_of}
 use Rattle.lie_const.specs.Adjoint.{basis_vector, basis_weight, adjoint_dimension}
 use Rattle.lie_orbit.proofs.WeightLemmas.{root_within, within_more}
 use Rattle.lie_weight.proofs.BasisLemmas.{basis_cases}
-use Rattle.lie_weight.specs.OrbitFaults.{IsHeavyWeight}
-use Rattle.lie_identities.specs.LightModules.{AdjointIsLight, OrbitIsLight}
+use Rattle.lie_weight.specs.OrbitFaults.{IsHeavyWeight, IsHeavyAt}
+use Rattle.lie_identities.specs.LightModules.{AdjointIsLight, OrbitIsLight, CarrierIsLight}
 
 -- a coordinate that is not too large
 light_weight : (x : Vector) → ¬ IsHeavyWeight x → IsWithin 1000000 x
@@ -21,12 +21,15 @@ light_weight x h k z l = elim (cases_lt 1000000 (unsigned_abs (get_or x k z))) [
   | inr light ↦ light
 ]
 
+not_heavy : (ws : List Vector) → ((a : ℕ) → ¬ IsHeavyAt ws a) → All (IsWithin 1000000) ws
+not_heavy ws light k z l =
+    light_weight (get_or ws k z) (λ heavy. light (k + 1) (omega arith, omega (arith, l), subst IsHeavyWeight (get_or_default ws k z [] l ∙ ap (λ i. get_or ws i []) (let e : k ≡ k + 1 - 1 = omega arith in e)) heavy))
+
 pub orbit_is_light : OrbitIsLight
-orbit_is_light d eta w v h = (
-  h.1.steps.shape,
-  λ k z l.
-      light_weight (get_or v.weights k z) (λ heavy. h.2.light (k + 1) (omega arith, omega (arith, l), subst IsHeavyWeight (get_or_default v.weights k z [] l ∙ ap (λ i. get_or v.weights i []) (let e : k ≡ k + 1 - 1 = omega arith in e)) heavy)),
-)
+orbit_is_light d eta w v h = (h.1.steps.shape, not_heavy v.weights h.2.light)
+
+pub carrier_is_light : CarrierIsLight
+carrier_is_light d eta adjoint v h = (h.0.sum.2.shape, not_heavy v.weights h.2)
 
 zeros_within : (n : ℕ) → IsWithin n (replicate 8 (pos 0))
 zeros_within n = All-replicate (λ c. unsigned_abs c ≤ n) 8 (pos 0) (omega arith)

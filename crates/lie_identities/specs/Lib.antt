@@ -11,3 +11,5 @@ pub mod Sides
 pub mod Grading
 pub mod Sizes
 pub mod Audited
+pub mod Covers
+pub mod CoverParts

@@ -5,9 +5,12 @@ ghost use Rattle.lie_const.specs.Modules.{IsModule};
 ghost use Rattle.lie_const.specs.Signs.{eta_of};
 ghost use Rattle.lie_identities.specs.Audit.{HasLightWeights, MeetsIdentities};
 ghost use Rattle.lie_identities.specs.Audited.{IsAudited};
+ghost use Rattle.lie_identities.specs.Covers.{Covers};
 
+use crate::covering::{CoverFault, module_covers};
 use lie_const::{Constants, Signs};
 use lie_datum::Datum;
+use lie_field::Field;
 use lie_weight::Module;
 use std::marker::Model;
 use std::snapshot::Snapshot;
@@ -54,5 +57,13 @@ impl Audited {
         ensures audited { IsAudited self.now }
     {
         &self.space
+    }
+    /// Whether each positive root acts on the module over the field, and its weights reach each axis; or the
+    /// first root, else axis, for which this fails. It takes no memory.
+    pub fn covering(&self, field: &Field, datum: &Datum) -> Result<(), CoverFault>
+        requires { datum.now ≡ self.now.datum }
+        ensures { Covers field.now self.now.datum self.now.module result }
+    {
+        module_covers(field, datum, self.module())
     }
 }

@@ -7,9 +7,12 @@
 //! `specs/AuditRelations.antt` has the relations S1, S2, S6 and S7 as equations between products of matrices, their
 //! order and their sizes; `specs/Audit.antt` says what an audited module is, and which fault comes first where one is not;
 //! `specs/Audited.antt` has what an `Audited` keeps. The faults exclude one another and success (`one_audit_answer`), and the
-//! modules of `lie_weight` have weights that are small enough (`adjoint_is_light`, `orbit_is_light`). The crate is the
-//! lower half of lie_audit. It stands on `lie_weight`, `lie_orbit`, `lie_poly`, `lie_const`, `lie_mat`, `lie_ring`,
-//! `lie_datum` and `thiserror`.
+//! modules of `lie_weight` have weights that are small enough (`adjoint_is_light`, `orbit_is_light`, `carrier_is_light`).
+//!
+//! `Audited::covering` tells whether each root acts over a field and each axis is reached by weights: `specs/Covers.antt`;
+//! that a carrier covers its axes is a law (`carriers_cover_axes`). The crate is the lower half of lie_audit. It stands on
+//! `lie_weight`, `lie_orbit`, `lie_poly`, `lie_const`, `lie_field`, `lie_mat`, `lie_ring`, `lie_datum`, `lie_base` and
+//! `thiserror`.
 #![tactic(auto)]
 
 mod actions;
@@ -19,6 +22,7 @@ mod auditing;
 mod bounds;
 mod columns;
 mod compare;
+mod covering;
 mod factors;
 mod faults;
 mod grading;
@@ -32,6 +36,9 @@ mod steps;
 
 pub use audited::Audited;
 pub use auditing::audit;
+pub use covering::CoverFault;
 pub use faults::AuditFault;
-pub use laws::{adjoint_is_light, one_audit_answer, orbit_is_light};
+pub use laws::{
+    adjoint_is_light, carrier_is_light, carriers_cover_axes, one_audit_answer, orbit_is_light,
+};
 pub use relations::Rel;
