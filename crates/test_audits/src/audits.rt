@@ -13,7 +13,7 @@ ghost use Rattle.lie_identities.specs.Audit.{HasLightWeights};
 use lie_audit::{SignFault, signs as read_signs};
 use lie_const::{Constants, Signs};
 use lie_datum::{Datum, Vector};
-use lie_identities::{Audited, AuditFault, Rel, audit};
+use lie_identities::{AuditFault, Audited, Rel, audit};
 use lie_weight::{Module, ModuleFault};
 use std::alloc::Global;
 use test_rows::{Answer, Stop, constants, padded};
@@ -179,15 +179,17 @@ fn write(found: Result<Audited, AuditFault>, answer: &mut Answer) -> Result<(), 
             answer.word("large")?;
             write_rel(rel, answer)?;
         }
-        Err(AuditFault::Relation {
-            rel,
-            row,
-            col,
-            et,
-            eu,
-            left,
-            right,
-        }) => {
+        Err(
+            AuditFault::Relation {
+                rel,
+                row,
+                col,
+                et,
+                eu,
+                left,
+                right,
+            },
+        ) => {
             write_rel(rel, answer)?;
             answer.next(&[row as i128, col as i128])?;
             answer.next(&[et as i128, eu as i128])?;
