@@ -101,7 +101,7 @@ module _ (f : SignedFrame) (lawful : IsLawfulSigned f) where
   m = length f.datum.positive
 
   -- the letters that are 0 may be left out
-  full_joined : (u : List ℕ) → AreEntries R m u → JoinedInGroup f (root_letters (full_word u)) (letters u)
+  pub full_joined : (u : List ℕ) → AreEntries R m u → JoinedInGroup f (root_letters (full_word u)) (letters u)
   full_joined u h =
       let over = word_lawful R (field_is_ring f.field) m u h in
       JoinedInGroup-plain f (root_letters (full_word u)) (letters u)
@@ -334,7 +334,7 @@ module _ (f : SignedFrame) (lawful : IsLawfulSigned f) where
       moved_more (H h ∷ map N word) u k a t c v inside e nonzero own (stays_positive word u k t zeros low (λ q. nonzero (e ∙ q)) own root) (fits_below c below) passes known
 
 -- what is read within a list, whatever stands for a place behind its end
-pub read_within : (u : List ℕ) (k d e : ℕ) → k < length u → get_or u k d ≡ get_or u k e
+pub read_within : {A : Type 0} (u : List A) (k : ℕ) (d e : A) → k < length u → get_or u k d ≡ get_or u k e
 read_within [] k d e h = absurd (omega (arith, h))
 read_within (a ∷ u) zero d e h = refl
 read_within (a ∷ u) (suc k) d e h = read_within u k d e (omega (arith, h))

@@ -110,7 +110,11 @@ module _ (d : RootDatum) (loaded : IsLoaded d) where
   pub depth_of : RootName d → ℕ
   depth_of r = unsigned_abs (height (root_at d r))
 
-  height_opposite : (r : RootName d) → height (root_at d (opposite_name d r)) ≡ neg_ℤ (height (root_at d r))
+  pub depth_is : (r : RootName d) → depth_of r ≡ unsigned_abs (height (root_at d r))
+  unfolding depth_of
+  depth_is r = refl
+
+  pub height_opposite : (r : RootName d) → height (root_at d (opposite_name d r)) ≡ neg_ℤ (height (root_at d r))
   height_opposite r =
       ap height (opposite_at d loaded r) ∙ total-times (neg_ℤ (pos 1)) (root_at d r).coeffs
       ∙ (let e : neg_ℤ (pos 1) *ℤ height (root_at d r) ≡ neg_ℤ (height (root_at d r)) = omega (arith, ints) in e)

@@ -1,5 +1,5 @@
 -- Forms of longer words: the products compose, and a word may be put for one that it is joined to.
-use Rattle.std.proofs.Common.{ℕ, List, [], ◌++◌, sym, subst, ◌∙◌, append_assoc}
+use Rattle.std.proofs.Common.{ℕ, List, [], ◌∷◌, ◌++◌, sym, subst, ◌∙◌, append_assoc, Result, Ok, Err, IfOk}
 use Rattle.std.proofs.lemmas.List.{append-nil}
 use Rattle.lie_datum.specs.RootList.{IsLoaded}
 use Rattle.lie_weyl.proofs.Words.{is_word, are_letters}
@@ -11,7 +11,7 @@ use Rattle.lie_letters.specs.GroupSpelled.{JoinedInGroup}
 use Rattle.lie_letters.specs.Spelled.{IsWordOver}
 use Rattle.lie_unip.specs.Forms.{FormData, IsForm, IsFormOf, IsShortest, form_word}
 use Rattle.lie_bruhat.specs.Products.{IsTimes}
-use Rattle.lie_letters.proofs.GroupSpelledLemmas.{JoinedInGroup-refl, JoinedInGroup-trans, JoinedInGroup-append, JoinedInGroup-over}
+use Rattle.lie_letters.proofs.GroupSpelledLemmas.{JoinedInGroup-refl, JoinedInGroup-trans, JoinedInGroup-flip, JoinedInGroup-append, JoinedInGroup-over}
 
 module _ (f : SignedFrame) (loaded : IsLoaded f.datum) where
   -- a form has a shortest word of its Weyl element
@@ -52,3 +52,19 @@ module _ (f : SignedFrame) (loaded : IsLoaded f.datum) where
   -- a form of the empty word, times a word, is a form of the word
   pub times_empty : (x y : FormData) (v : List CodeLetter) → IsFormOf f x [] → IsTimes f x v y → IsFormOf f y v
   times_empty x y v h a = a.times [] h
+
+  -- a letter that is joined to the empty word
+  pub times_nothing : (x : FormData) (v : List CodeLetter) → IsForm f x → JoinedInGroup f v [] → IsTimes f x v x
+  times_nothing x v h d = times_joined x x [] v (JoinedInGroup-flip f v [] d) (times_none x h)
+
+  -- the last of several words, in the answer of a call
+  pub times_last : {E : Type 0} (x y : FormData) (u v s : List CodeLetter) (r : Result FormData E) → JoinedInGroup f (u ++ v) s → IsTimes f x u y → IfOk r (IsTimes f y v) → IfOk r (IsTimes f x s)
+  times_last x y u v s (Ok z) d a b = times_joined x z (u ++ v) s d (times_then x y z u v a b)
+  times_last x y u v s (Err e) d a b = tt
+
+  -- four letters, one after the other
+  pub times_four : {E : Type 0} (x a b c : FormData) (s t u v : CodeLetter) (w : List CodeLetter) (r : Result FormData E) → JoinedInGroup f w (s ∷ t ∷ u ∷ v ∷ [])
+      → IsTimes f x (s ∷ []) a → IsTimes f a (t ∷ []) b → IsTimes f b (u ∷ []) c → IfOk r (IsTimes f c (v ∷ [])) → IfOk r (IsTimes f x w)
+  times_four x a b c s t u v w r d first second third last =
+      times_last x c (s ∷ t ∷ u ∷ []) (v ∷ []) w r (JoinedInGroup-flip f w (s ∷ t ∷ u ∷ v ∷ []) d)
+      (times_then x b c (s ∷ t ∷ []) (u ∷ []) (times_then x a b (s ∷ []) (t ∷ []) first second) third) last

@@ -9,10 +9,14 @@
 //! torus vectors. The crate stands on `lie_unip`, `lie_letters` and the crates below them.
 #![tactic(auto)]
 
+mod bruhat;
 mod laws;
 mod moving;
+mod negative;
 mod product;
+mod turned;
 
+pub use bruhat::{form, inv, mul, times_letter};
 pub use laws::{
     every_word_has_form, inverse_weyl_letters, opposite_root_letters, reversed_cancels,
     shortest_words_joined, weyl_letters_pass_torus, weyl_letters_squared,
