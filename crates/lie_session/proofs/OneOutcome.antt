@@ -190,18 +190,20 @@ frame_once setting x y loaded h k a b = one_frame setting.field setting.datum x 
 collect_once : (setting : Setting) (w : List Letter) (x y : FrameAnswer) (r q : Outcome) → IsLoaded setting.datum → MakesFrame setting.field setting.datum x → MakesFrame setting.field setting.datum y
     → IsTold r → IsTold q → CollectsBy setting w x r → CollectsBy setting w y q → IsSameOutcome (stage.Load setting) (line.Collect w) r q
 collect_once setting w (Ok g) (Ok h) r q loaded m k a b c d =
-    by_both (stage.Load setting) (line.Collect w) r q (answered (stage.Load setting) c.0) (answered (stage.Load setting) d.0) c.2 d.2
-    (equal (stage.Load setting), inr (record {
-      word = w;
-      says = inr refl;
-      frame = g;
-      other = h;
-      field_is = ap Some (sym m.field);
-      datum_is = ap Some (sym m.datum);
-      same = one_frame setting.field setting.datum (Ok g) (Ok h) loaded m k (frame_ok g) (frame_ok h);
-      left = c.1;
-      right = d.1;
-    }))
+    by_both (stage.Load setting) (line.Collect w) r q (answered (stage.Load setting) c.0) (answered (stage.Load setting) d.0) c.2 d.2 (
+      equal (stage.Load setting),
+      inr (record {
+        word = w;
+        says = inr refl;
+        frame = g;
+        other = h;
+        field_is = ap Some (sym m.field);
+        datum_is = ap Some (sym m.datum);
+        same = one_frame setting.field setting.datum (Ok g) (Ok h) loaded m k (frame_ok g) (frame_ok h);
+        left = c.1;
+        right = d.1;
+      }),
+    )
 collect_once setting w (Ok g) (Err why) r q loaded m k a b c d =
     absurd (one_frame setting.field setting.datum (Ok g) (Err why) loaded m k (frame_ok g) (frame_err why (load_named why (subst IsTold d b))))
 collect_once setting w (Err why) (Ok h) r q loaded m k a b c d =
@@ -258,18 +260,20 @@ module _ (g : LoadedGroup) (c : ConstantTable) (table : IsSameTable g.frame.datu
 loaded_once : (g : LoadedGroup) (c : ConstantTable) → IsSameTable g.frame.datum g.frame.constants c → (said : Line) (r q : Outcome) → IsLoaded g.frame.datum → IsTold r → IsTold q
     → Leads (stage.Loaded g) said r → Leads (stage.Loaded (with_constants g c)) said q → IsSameOutcome (stage.Loaded g) said r q
 loaded_once g c table (line.Form w) r q loaded a b x y =
-    by_both (stage.Loaded g) (line.Form w) r q (answered (stage.Loaded g) x.0) (answered (stage.Loaded (with_constants g c)) y.0) x.2 y.2
-    (groups g c table, inr (record {
-      word = w;
-      says = inl refl;
-      frame = g.frame;
-      other = record g.frame { constants = c };
-      field_is = refl;
-      datum_is = refl;
-      same = record { field = refl; datum = refl; constants = table; signs = refl };
-      left = x.1;
-      right = y.1;
-    }))
+    by_both (stage.Loaded g) (line.Form w) r q (answered (stage.Loaded g) x.0) (answered (stage.Loaded (with_constants g c)) y.0) x.2 y.2 (
+      groups g c table,
+      inr (record {
+        word = w;
+        says = inl refl;
+        frame = g.frame;
+        other = record g.frame { constants = c };
+        field_is = refl;
+        datum_is = refl;
+        same = record { field = refl; datum = refl; constants = table; signs = refl };
+        left = x.1;
+        right = y.1;
+      }),
+    )
 loaded_once g c table line.Roots r q loaded a b x y = same_answer g c table line.Roots r q _ _ x y refl
 loaded_once g c table (line.Constant p t) r q loaded a b x y = same_answer g c table (line.Constant p t) r q x.0 y.0 x.2 y.2 (one_constant_text g.frame.datum p t x.0 y.0 loaded x.1 y.1)
 loaded_once g c table (line.Weyl indices) r q loaded a b x y = same_answer g c table (line.Weyl indices) r q x.0 y.0 x.2 y.2 (one_weyl_text g.frame.datum indices x.0 y.0 loaded x.1 y.1)

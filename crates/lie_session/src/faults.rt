@@ -127,7 +127,12 @@ fn words_of_load(alloc: Global, fault: &LoadFault) -> Result<Words, AllocError>
         LoadFault::Fraction(r, s, i, j) => words(
             alloc,
             b"fraction",
-            &[r.number() as i128, s.number() as i128, *i as i128, *j as i128],
+            &[
+                r.number() as i128,
+                s.number() as i128,
+                *i as i128,
+                *j as i128,
+            ],
         ),
         LoadFault::Sign(i, s, value) => words(
             alloc,
