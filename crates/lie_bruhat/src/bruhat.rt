@@ -19,7 +19,7 @@ use lie_letters::{Frame, Letter, Torus, Word};
 use lie_unip::Form;
 use std::alloc::{AllocError, Global};
 
-/// The form times a letter.
+/// The form times a letter. A letter at a negative root makes a product of a few forms; each other letter one or two.
 pub fn times_letter(
     alloc: Global,
     frame: &Frame,
@@ -39,7 +39,7 @@ pub fn times_letter(
     }
 }
 
-/// The form of a word.
+/// The form of a word, letter by letter.
 pub fn form(alloc: Global, frame: &Frame, w: &Word) -> Result<Form, AllocError>
     requires { IsWordOver (unsigned frame.now) w.now }
     ensures { IfOk result (λ x. IsFormOf frame.now x w.now) }
@@ -53,7 +53,8 @@ pub fn form(alloc: Global, frame: &Frame, w: &Word) -> Result<Form, AllocError>
     Ok(form)
 }
 
-/// The product: the words of `a`, then those of `b`.
+/// The product: the words of `a`, then those of `b`. It takes a collection for each list of `b` and some for each
+/// simple reflection of its least word.
 pub fn mul(alloc: Global, frame: &Frame, a: &Form, b: &Form) -> Result<Form, AllocError>
     requires a { IsForm frame.now a.now }
     requires b { IsForm frame.now b.now }

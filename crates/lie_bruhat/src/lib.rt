@@ -1,12 +1,15 @@
-//! What follows from the relations S0 to S7 in every lawful frame: the rules of Weyl letters, and that each
-//! word has a Bruhat form.
+//! Bruhat forms of words, of products and of inverses, in every lawful frame.
 //!
-//! A form u h n_w v (`lie_unip`, `specs/Forms.antt`) stands for every word that its own word is joined to.
-//! The crate has laws alone, functions that do nothing and whose contracts are the statements of
-//! `specs/Rules.antt`: how `n_i` passes the torus, its square, opposite root letters, the words of the `n_i`
-//! along shortest words of one Weyl element, and words followed by their reversed words. No module is needed
-//! for any of them. `specs/WeylWords.antt` has the words of letters `n_i` and what they do to roots, signs and
-//! torus vectors. The crate stands on `lie_unip`, `lie_letters` and the crates below them.
+//! A form u h n_w v (`lie_unip`, `specs/Forms.antt`) stands for every word that its own word is joined to by the
+//! relations S0 to S7. `times_letter` multiplies a form by a letter, and `form` does so along a word; `mul` and `inv`
+//! take forms apart as they stand. What they answer is `specs/Products.antt`. No module is needed for any of it, and
+//! nothing is said of a second form of the same word.
+//!
+//! Laws are functions that do nothing and whose contracts are the statements of `specs/Rules.antt`: how `n_i` passes
+//! the torus, its square, opposite root letters, the words of the `n_i` along shortest words of one Weyl element, and
+//! words followed by their reversed words; and that each word has a form. `specs/WeylWords.antt` has the words of
+//! letters `n_i` and what they do to roots, signs and torus vectors. The crate stands on `lie_unip`, `lie_letters` and
+//! the crates below them.
 #![tactic(auto)]
 
 mod bruhat;
