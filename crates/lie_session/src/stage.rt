@@ -9,7 +9,9 @@ ghost use Rattle.lie_script.specs.Reading.{reads};
 ghost use Rattle.lie_script.specs.Setting.{answer_of};
 ghost use Rattle.lie_session.specs.Named.{listed_of};
 ghost use Rattle.lie_session.specs.Obeyed.{IsLed};
-ghost use Rattle.lie_session.specs.Outcomes.{KeepsField, KeepsDatum, ReadsDatum, Collects, LoadsGroup};
+ghost use Rattle.lie_session.specs.Outcomes.{KeepsField, KeepsDatum, ReadsDatum, Collects, LoadsGroup, Leads};
+ghost use Rattle.lie_session.specs.Ready.{Ready};
+ghost use Rattle.lie_session.specs.declared.stage.Stage.TheVariants as stage;
 
 use crate::datum::DatumLines;
 use crate::faults::CallFault;
@@ -101,6 +103,57 @@ fn load_group(alloc: Global, setting: Setting) -> Result<Led, CallFault>
     let frame = setting.frame(alloc)?;
     let text = loaded_text(alloc, &frame.field, &frame.datum)?;
     Ok((Stage::Loaded(LoadedGroup::new(alloc, frame)), Some(text)))
+}
+
+/// A line where the field is awaited.
+fn at_field(alloc: Global, line: Line) -> Result<Led, CallFault>
+    requires { Ready stage.Field line }
+    ensures { IsLed (Leads stage.Field line) result }
+{
+    match line {
+        Line::Field { p, k, coeffs, g } => keep_field(alloc, p, k, &coeffs, g),
+        _ => Ok((Stage::Field, None)),
+    }
+}
+
+/// A line where the line `datum` is awaited.
+fn at_datum(alloc: Global, field: Field, line: Line) -> Result<Led, CallFault>
+    requires { Ready (stage.Datum field) line }
+    ensures { IsLed (Leads (stage.Datum field) line) result }
+{
+    match line {
+        Line::Datum { d, l } => read_datum(alloc, field, DatumLines::opened(alloc, d, l)),
+        _ => Ok((Stage::Datum(field), None)),
+    }
+}
+
+/// A line where a simple root or coroot is awaited.
+fn at_lines(
+    alloc: Global,
+    field: Field,
+    lines: DatumLines,
+    line: Line,
+) -> Result<Led, CallFault>
+    requires { Ready (stage.Lines field lines) line }
+    ensures { IsLed (Leads (stage.Lines field lines) line) result }
+{
+    match line {
+        Line::Root(v) => read_datum(alloc, field, lines.with_root(v.list())?),
+        Line::Coroot(v) => read_datum(alloc, field, lines.with_coroot(v.list())?),
+        _ => Ok((Stage::Lines(field, lines), None)),
+    }
+}
+
+/// A line where `load` is awaited.
+fn at_load(alloc: Global, setting: Setting, line: Line) -> Result<Led, CallFault>
+    requires { Ready (stage.Load setting) line }
+    ensures { IsLed (Leads (stage.Load setting) line) result }
+{
+    match line {
+        Line::Collect(w) => collect(alloc, setting, &w),
+        Line::Load => load_group(alloc, setting),
+        _ => Ok((Stage::Load(setting), None)),
+    }
 }
 
 impl Stage {
@@ -215,20 +268,12 @@ impl Stage {
         requires ready { Ready self line }
         ensures { IsLed (Leads self line) result }
     {
-        match (self, line) {
-            (Stage::Field, Line::Field { p, k, coeffs, g }) => keep_field(alloc, p, k, &coeffs, g),
-            (Stage::Datum(field), Line::Datum { d, l }) => {
-                read_datum(alloc, field, DatumLines::opened(alloc, d, l))
-            }
-            (Stage::Lines(field, lines), Line::Root(v)) => {
-                read_datum(alloc, field, lines.with_root(v.list())?)
-            }
-            (Stage::Lines(field, lines), Line::Coroot(v)) => {
-                read_datum(alloc, field, lines.with_coroot(v.list())?)
-            }
-            (Stage::Load(setting), Line::Collect(w)) => collect(alloc, setting, &w),
-            (Stage::Load(setting), Line::Load) => load_group(alloc, setting),
-            (stage, _) => Ok((stage, None)),
+        match self {
+            Stage::Field => at_field(alloc, line),
+            Stage::Datum(field) => at_datum(alloc, field, line),
+            Stage::Lines(field, lines) => at_lines(alloc, field, lines, line),
+            Stage::Load(setting) => at_load(alloc, setting, line),
+            Stage::Loaded(group) => Ok((Stage::Loaded(group), None)),
         }
     }
 
