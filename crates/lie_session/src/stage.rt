@@ -128,12 +128,7 @@ fn at_datum(alloc: Global, field: Field, line: Line) -> Result<Led, CallFault>
 }
 
 /// A line where a simple root or coroot is awaited.
-fn at_lines(
-    alloc: Global,
-    field: Field,
-    lines: DatumLines,
-    line: Line,
-) -> Result<Led, CallFault>
+fn at_lines(alloc: Global, field: Field, lines: DatumLines, line: Line) -> Result<Led, CallFault>
     requires { Ready (stage.Lines field lines) line }
     ensures { IsLed (Leads (stage.Lines field lines) line) result }
 {
