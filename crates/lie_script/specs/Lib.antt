@@ -9,5 +9,4 @@ pub mod Modules
 pub mod Reading
 pub mod Setting
 pub mod Texts
-pub mod FormTexts
 pub mod Accepted

@@ -21,8 +21,6 @@ pub enum Line {
     },
     Root(Numbers),
     Coroot(Numbers),
-    /// A word, before the group is loaded.
-    Collect(Word),
     Load,
     Form(Word),
     Roots,
@@ -42,7 +40,7 @@ pub enum Line {
         name: Text,
         v: Numbers,
     },
-    /// The name of a module, and a word.
+    /// The name of a module, and a word with letters of every kind.
     Matrix {
         name: Text,
         w: Word,

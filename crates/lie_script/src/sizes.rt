@@ -7,7 +7,6 @@ pub enum Wants {
     Datum,
     Root,
     Coroot,
-    /// `load`, or `collect` before it.
     Load,
     Command,
 }

@@ -1,7 +1,10 @@
-//! The lines of a datum.
+//! The lines of a datum, and how far it is.
 ghost use Rattle.std.specs.Prelude.{◌≡◌, ◌≤◌, length, IfOk};
+ghost use Rattle.std.specs.Option.{option_copied};
 ghost use Rattle.lie_datum.specs.Load.{Loads};
 ghost use Rattle.lie_session.specs.DatumLines.{opened, padded as with_zeros, with_root, with_coroot, is_whole, base_of, datum_wants};
+ghost use Rattle.lie_session.specs.State.{whole};
+ghost use Rattle.lie_session.specs.Replies.{InDatum};
 
 use lie_datum::{Datum, DatumFault, Vector};
 use lie_script::Wants;
@@ -53,22 +56,34 @@ impl DatumLines {
         }
     }
 
-    /// The lines with one simple root more.
-    pub(crate) fn with_root(mut self, v: &[i128]) -> Result<DatumLines, AllocError>
+    /// One simple root more.
+    pub(crate) fn with_root(&self, alloc: Global, v: &[i128]) -> Result<DatumLines, AllocError>
         requires { length v.now ≤ 8 }
-        ensures { IfOk result (λ lines. lines ≡ with_root self v.now) }
+        ensures { IfOk result (λ lines. lines ≡ with_root self.now v.now) }
     {
-        self.roots.push(padded(v))?;
-        Ok(self)
+        let mut roots = Vec::from_slice(alloc, &self.roots)?;
+        roots.push(padded(v))?;
+        Ok(DatumLines {
+            d: self.d,
+            l: self.l,
+            roots,
+            coroots: Vec::from_slice(alloc, &self.coroots)?,
+        })
     }
 
-    /// The lines with one simple coroot more.
-    pub(crate) fn with_coroot(mut self, v: &[i128]) -> Result<DatumLines, AllocError>
+    /// One simple coroot more.
+    pub(crate) fn with_coroot(&self, alloc: Global, v: &[i128]) -> Result<DatumLines, AllocError>
         requires { length v.now ≤ 8 }
-        ensures { IfOk result (λ lines. lines ≡ with_coroot self v.now) }
+        ensures { IfOk result (λ lines. lines ≡ with_coroot self.now v.now) }
     {
-        self.coroots.push(padded(v))?;
-        Ok(self)
+        let mut coroots = Vec::from_slice(alloc, &self.coroots)?;
+        coroots.push(padded(v))?;
+        Ok(DatumLines {
+            d: self.d,
+            l: self.l,
+            roots: Vec::from_slice(alloc, &self.roots)?,
+            coroots,
+        })
     }
 
     /// The number of coordinates.
@@ -110,5 +125,49 @@ impl DatumLines {
         ensures { Loads (base_of self.now) result }
     {
         Datum::load(alloc, self.d, &self.roots, &self.coroots)
+    }
+}
+
+/// How far the datum is.
+#[derive(Drop)]
+pub(crate) enum DatumStage {
+    Missing,
+    Reading(DatumLines),
+    Whole(Datum),
+}
+
+impl DatumStage {
+    /// The lines with one simple root more.
+    pub(crate) fn with_root(&self, alloc: Global, v: &[i128]) -> Result<DatumLines, AllocError>
+        requires { InDatum self.now (λ before. length v.now ≡ before.dim) }
+        ensures { IfOk result (λ lines. InDatum self.now (λ before. lines ≡ with_root before v.now)) }
+    {
+        let DatumStage::Reading(lines) = self else {
+            unreachable!()
+        };
+        let _d = lines.dim();
+        lines.with_root(alloc, v)
+    }
+
+    /// The lines with one simple coroot more.
+    pub(crate) fn with_coroot(&self, alloc: Global, v: &[i128]) -> Result<DatumLines, AllocError>
+        requires { InDatum self.now (λ before. length v.now ≡ before.dim) }
+        ensures { IfOk result (λ lines. InDatum self.now (λ before. lines ≡ with_coroot before v.now)) }
+    {
+        let DatumStage::Reading(lines) = self else {
+            unreachable!()
+        };
+        let _d = lines.dim();
+        lines.with_coroot(alloc, v)
+    }
+
+    /// The datum, once all its lines were accepted.
+    pub(crate) fn whole(&self) -> Option<&Datum>
+        ensures { option_copied result ≡ whole self.now }
+    {
+        match self {
+            DatumStage::Whole(datum) => Some(datum),
+            _ => None,
+        }
     }
 }

@@ -1,4 +1,5 @@
-use Rattle.std.proofs.Common.{rules, ◌≡◌, ◌++◌, ap, sym, ◌∙◌}
+use Rattle.std.proofs.Common.{rules, ◌≡◌, ◌++◌, ap, sym, ◌∙◌, arith}
+use Rattle.std.specs.List.{flat_map, range_with_len}
 use Rattle.lie_reply.specs.Modules.{row_text}
 use Rattle.lie_reply.proofs.RowLemmas.{rows-more}
 use Rattle.lie_reply.proofs.modules.matrix_text.Goals as goal

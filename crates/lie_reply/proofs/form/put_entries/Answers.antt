@@ -1,0 +1,17 @@
+use Rattle.std.proofs.Common.{rules, arith, ◌≡◌, ◌≤◌, ◌∷◌, [], ◌++◌, map, take, length, ap, sym, ◌∙◌, append_assoc}
+use Rattle.std.specs.Prelude.{decimal}
+use Rattle.std.specs.List.{join_with_byte}
+use Rattle.std.proofs.lemmas.List.{take_all}
+use Rattle.lie_reply.proofs.SpacedLemmas.{spaced, spaced_all}
+use Rattle.lie_reply.proofs.form.put_entries.Goals as goal
+
+pub returns : goal.returns
+returns c =
+    let t = c.args.torus.now in
+    let old = c.args.out.now.items in
+    let entries = c.entries-entries.result.now in
+    let same : entries ≡ t = c.entries-entries.ensures.entries in
+    let past : length entries ≤ c.entries.e-index = search rules in
+    let all : take c.entries.e-index entries ≡ t = take_all c.entries.e-index entries past ∙ same in
+    c.entries.invariant ∙ ap (λ z. old ++ spaced z) all ∙ ap (λ z. old ++ z) (spaced_all t (omega (arith, c.entries-entries.ensures.one_or_more)))
+    ∙ sym (append_assoc old (32 ∷ []) (join_with_byte 32 (map decimal t)))
