@@ -1,5 +1,5 @@
 # What the measurements over several root data share: the data, their lines up to `load`, and the time of a run. It is read by
-# collection.sh, which sets `top`.
+# collection.sh and form.sh, which set `top`.
 
 # name, prime, generator, positive roots, lines, and the rows of the Cartan matrix
 types='

@@ -1,35 +1,16 @@
--- The text of a form tells its letters and its torus vector, so equal replies mean joined words.
-use Rattle.std.proofs.Common.{◌≡◌, ℕ, zero, suc, ◌+◌, ◌%◌, ◌^◌, ◌<◌, ◌≤◌, ◌⊎◌, inl, inr, ⊎_elim, true, false, pos, List, [], ◌∷◌, ◌++◌, map, length, refl, ap, ap₂, sym, subst, ◌∙◌, arith, eqb, append_assoc}
-use Rattle.std.specs.Prelude.{decimal, codes, ◌↔◌, filter, nat_lt}
-use Rattle.std.specs.List.{AllByRecursion, join_with_byte, slice_split, range_with_len}
-use Rattle.std.specs.Map.{lookup}
-use Rattle.std.specs.Option.{unwrap_or}
+-- The text of a form tells its letters, its torus vector and its word.
+use Rattle.std.proofs.Common.{◌≡◌, ℕ, ◌+◌, ◌%◌, ◌^◌, ◌<◌, ◌≤◌, ◌⊎◌, inl, inr, ⊎_elim, Bool, true, false, cond, List, [], ◌∷◌, ◌++◌, map, length, refl, ap, ap₂, sym, subst, ◌∙◌, arith, eqb, append_assoc}
+use Rattle.std.specs.Prelude.{decimal, codes, filter, not, nat_eq}
+use Rattle.std.specs.List.{AllByRecursion, join_with_byte, slice_split}
 use Rattle.std.proofs.lemmas.Bool.{ne_eqb, false≢true}
+use Rattle.std.proofs.lemmas.Bool.Decides.{nat_tests}
 use Rattle.std.proofs.lemmas.Fmt.{decimal_by_steps, decimal_injective}
 use Rattle.std.proofs.lemmas.List.{append_cancel_right}
 use Rattle.std.proofs.lemmas.List.Elements.{All-from_recursion}
 use Rattle.std.proofs.lemmas.List.Splits.{slice_split_at, slice_split_none}
-use Rattle.lie_const.specs.ConstantTables.{ConstantTable}
-use Rattle.lie_datum.specs.RootList.{RootDatum, IsLoaded, IsNumber}
-use Rattle.lie_datum.proofs.ListedLemmas.{listed_few}
-use Rattle.lie_datum.proofs.NumberLemmas.{within}
-use Rattle.lie_field.specs.FieldRing.{field_ring}
-use Rattle.lie_field.specs.FiniteField.{FiniteField}
-use Rattle.lie_field.specs.Faults.{IsWithinLimit}
-use Rattle.lie_field.specs.Quotient.{order}
-use Rattle.lie_letters.specs.Entries.{AreUnits, ones, times_each}
-use Rattle.lie_letters.specs.Frames.{FrameData, dim}
-use Rattle.lie_letters.specs.RingLetters.{RingLetter, CommutatorTerm, full_from}
-use Rattle.lie_letters.specs.Spelled.{JoinedSpelled, IsWordOver, root_letters}
-use Rattle.lie_letters.specs.declared.letter.Letter.{Letter}
-use Rattle.lie_letters.specs.declared.letter.Letter.TheVariants.{X, H, N, Ninv}
-use Rattle.lie_letters.proofs.CallerLemmas.{JoinedSpelled-flip, JoinedSpelled-trans, JoinedSpelled-over, torus_letters_decide}
-use Rattle.lie_unip.specs.Collection.{Ends, at_end, by_step, elements, rewritten}
-use Rattle.lie_unip.proofs.CarriedLemmas.{IsCollected-once}
-use Rattle.lie_reply.specs.Commands.{FormTextOf}
-use Rattle.lie_reply.specs.Forms.{frame_of, moved_roots, is_nonzero, nonzero_letters, form_word, IsFormOf}
-use Rattle.lie_reply.specs.Laws.{JoinedWords, IsTorusLetter}
-use Rattle.lie_reply.specs.Texts.{root_letter_text, letters_text, form_text}
+use Rattle.lie_letters.specs.RingLetters.{RingLetter, full_from}
+use Rattle.lie_unip.specs.Forms.{FormData, is_nonzero, nonzero_letters}
+use Rattle.lie_script.specs.FormTexts.{root_letter_text, listed, letters_text, indices_text, entries_text, form_text}
 
 -- ---- bytes that do not occur
 
@@ -40,8 +21,11 @@ avoids-append : (c : ℕ) (a b : List ℕ) → Avoids c a → Avoids c b → Avo
 avoids-append c [] b h k = k
 avoids-append c (x ∷ a) b h k = (h.0, avoids-append c a b h.1 k)
 
--- decimal digits are the bytes 48 to 57
-avoids-decimal : (c n : ℕ) → (c < 48) ⊎ (57 < c) → n < 2 ^ 64 → Avoids c (decimal n)
+-- no digit, which are the bytes 48 to 57
+abbrev IsNoDigit : ℕ → Type 0
+IsNoDigit c = (c < 48) ⊎ (57 < c)
+
+avoids-decimal : (c n : ℕ) → IsNoDigit c → n < 2 ^ 64 → Avoids c (decimal n)
 avoids-decimal c n other h =
     decimal_by_steps (λ n ds. Avoids c ds) (λ n lt. (ne_eqb (48 + n) c (no_digit n lt), tt))
     (λ n ds ge rest. avoids-append c ds ((48 + n % 10) ∷ []) rest (ne_eqb (48 + n % 10) c (no_digit (n % 10) (omega arith)), tt)) n h
@@ -49,22 +33,21 @@ avoids-decimal c n other h =
     no_digit : (n : ℕ) → n < 10 → 48 + n ≡ c → ⊥
     no_digit n lt e = ⊎_elim (λ l. absurd (omega (arith, l, e))) (λ l. absurd (omega (arith, l, lt, e))) other
 
+same_byte : (c : ℕ) → eqb c c ≡ true
+same_byte c = grind arith
+
 -- what stands before the first c, and behind it
 same_parts : (c : ℕ) (a b x y : List ℕ) → Avoids c a → Avoids c b → a ++ c ∷ x ≡ b ++ c ∷ y → (a ≡ b) × (x ≡ y)
 same_parts c [] [] x y h k e = (refl, cc)
-same_parts c [] (z ∷ b) x y h k e = let is : z ≡ c = cc in absurd (false≢true (sym k.0 ∙ ap (λ n. eqb n c) is ∙ self c))
-  where
-    self : (c : ℕ) → eqb c c ≡ true
-    self c = grind arith
-same_parts c (z ∷ a) [] x y h k e = let is : z ≡ c = cc in absurd (false≢true (sym h.0 ∙ ap (λ n. eqb n c) is ∙ self c))
-  where
-    self : (c : ℕ) → eqb c c ≡ true
-    self c = grind arith
+same_parts c [] (z ∷ b) x y h k e = let is : z ≡ c = cc in absurd (false≢true (sym k.0 ∙ ap (λ n. eqb n c) is ∙ same_byte c))
+same_parts c (z ∷ a) [] x y h k e = let is : z ≡ c = cc in absurd (false≢true (sym h.0 ∙ ap (λ n. eqb n c) is ∙ same_byte c))
 same_parts c (z ∷ a) (u ∷ b) x y h k e =
     let first : z ≡ u = cc in
     let rest : a ++ c ∷ x ≡ b ++ c ∷ y = cc in
     let parts = same_parts c a b x y h.1 k.1 rest in
     (ap₂ (λ (n : ℕ) (l : List ℕ). n ∷ l) first parts.0, parts.1)
+
+-- ---- texts with one space between
 
 split-join : (x : List ℕ) (xs : List (List ℕ)) → Avoids 32 x → AllByRecursion (Avoids 32) xs → slice_split (λ b. eqb b 32) (join_with_byte 32 (x ∷ xs)) ≡ x ∷ xs
 split-join x [] h hs = slice_split_none (λ b. eqb b 32) x (All-from_recursion (λ b. eqb b 32 ≡ false) x h)
@@ -72,217 +55,211 @@ split-join x (y ∷ xs) h hs =
     slice_split_at (λ b. eqb b 32) x 32 (join_with_byte 32 (y ∷ xs)) (All-from_recursion (λ b. eqb b 32 ≡ false) x h) refl
     ∙ ap (λ z. x ∷ z) (split-join y xs hs.0 hs.1)
 
+-- texts that are joined alike are alike
+same_joined : (x y : List ℕ) (xs ys : List (List ℕ)) → AllByRecursion (Avoids 32) (x ∷ xs) → AllByRecursion (Avoids 32) (y ∷ ys) → join_with_byte 32 (x ∷ xs) ≡ join_with_byte 32 (y ∷ ys) → x ∷ xs ≡ y ∷ ys
+same_joined x y xs ys h k e = sym (split-join x xs h.0 h.1) ∙ ap (slice_split (λ b. eqb b 32)) e ∙ split-join y ys k.0 k.1
+
 avoids-join : (c : ℕ) → eqb 32 c ≡ false → (xs : List (List ℕ)) → AllByRecursion (Avoids c) xs → Avoids c (join_with_byte 32 xs)
 avoids-join c blank [] h = tt
 avoids-join c blank (x ∷ []) h = h.0
 avoids-join c blank (x ∷ y ∷ xs) h = avoids-append c x (32 ∷ join_with_byte 32 (y ∷ xs)) h.0 (blank, avoids-join c blank (y ∷ xs) h.1)
 
-head_is : (x y : List ℕ) (xs ys : List (List ℕ)) → x ∷ xs ≡ y ∷ ys → x ≡ y
-head_is x y xs ys e = cc
+avoids-listed : (c : ℕ) → eqb 32 c ≡ false → eqb 45 c ≡ false → (xs : List (List ℕ)) → AllByRecursion (Avoids c) xs → Avoids c (listed xs)
+avoids-listed c blank dash [] h = (dash, tt)
+avoids-listed c blank dash (x ∷ xs) h = avoids-join c blank (x ∷ xs) h
 
-tail_is : (x y : List ℕ) (xs ys : List (List ℕ)) → x ∷ xs ≡ y ∷ ys → xs ≡ ys
-tail_is x y xs ys e = cc
+-- `-` is the text of no list with a text
+no_dash : (x : List ℕ) (xs : List (List ℕ)) → AllByRecursion (Avoids 45) (x ∷ xs) → codes "-" ≡ listed (x ∷ xs) → ⊥
+no_dash x xs h e = let found : Avoids 45 (codes "-") = subst (Avoids 45) (sym e) (avoids-join 45 refl (x ∷ xs) h) in false≢true (sym found.0)
 
--- ---- torus vectors
+same_listed : (xs ys : List (List ℕ)) → AllByRecursion (Avoids 32) xs → AllByRecursion (Avoids 32) ys → AllByRecursion (Avoids 45) xs → AllByRecursion (Avoids 45) ys → listed xs ≡ listed ys → xs ≡ ys
+same_listed [] [] h k a b e = refl
+same_listed [] (y ∷ ys) h k a b e = absurd (no_dash y ys b e)
+same_listed (x ∷ xs) [] h k a b e = absurd (no_dash x xs a (sym e))
+same_listed (x ∷ xs) (y ∷ ys) h k a b e = same_joined x y xs ys h k e
+
+-- things whose texts tell them are told by the list of their texts
+same_map : {A : Type 0} (P : A → Type 0) (f : A → List ℕ) → ((x y : A) → P x → P y → f x ≡ f y → x ≡ y) → (v w : List A) → AllByRecursion P v → AllByRecursion P w → map f v ≡ map f w → v ≡ w
+same_map P f tell [] [] h k e = refl
+same_map P f tell [] (y ∷ w) h k e = absurd cc
+same_map P f tell (x ∷ v) [] h k e = absurd cc
+same_map {A} P f tell (x ∷ v) (y ∷ w) h k e =
+    let first : f x ≡ f y = cc in
+    let rest : map f v ≡ map f w = cc in
+    ap₂ (λ (a : A) (l : List A). a ∷ l) (tell x y h.0 k.0 first) (same_map P f tell v w h.1 k.1 rest)
+
+-- ---- numbers
 
 -- small numbers
-abbrev AreSmall : List ℕ → Type 0
-AreSmall t = AllByRecursion (λ n. n < 2 ^ 64) t
+abbrev pub IsSmall : ℕ → Type 0
+IsSmall n = n < 2 ^ 64
 
-decimals-avoid : (c : ℕ) → (c < 48) ⊎ (57 < c) → (t : List ℕ) → AreSmall t → AllByRecursion (Avoids c) (map decimal t)
+decimals-avoid : (c : ℕ) → IsNoDigit c → (t : List ℕ) → AllByRecursion IsSmall t → AllByRecursion (Avoids c) (map decimal t)
 decimals-avoid c other [] h = tt
 decimals-avoid c other (x ∷ t) h = (avoids-decimal c x other h.0, decimals-avoid c other t h.1)
 
-same_numbers : (t u : List ℕ) → AreSmall t → AreSmall u → map decimal t ≡ map decimal u → t ≡ u
-same_numbers [] [] a b e = refl
-same_numbers [] (y ∷ u) a b e = absurd cc
-same_numbers (x ∷ t) [] a b e = absurd cc
-same_numbers (x ∷ t) (y ∷ u) a b e =
-    ap₂ (λ (n : ℕ) (l : List ℕ). n ∷ l) (decimal_injective x y a.0 b.0 (head_is (decimal x) (decimal y) (map decimal t) (map decimal u) e))
-    (same_numbers t u a.1 b.1 (tail_is (decimal x) (decimal y) (map decimal t) (map decimal u) e))
+same_numbers : (t u : List ℕ) → AllByRecursion IsSmall t → AllByRecursion IsSmall u → map decimal t ≡ map decimal u → t ≡ u
+same_numbers = same_map IsSmall decimal (λ x y h k e. decimal_injective x y h k e)
 
-same_vectors : (t u : List ℕ) → AreSmall t → AreSmall u → length t ≡ length u → join_with_byte 32 (map decimal t) ≡ join_with_byte 32 (map decimal u) → t ≡ u
-same_vectors [] [] a b long e = refl
-same_vectors [] (y ∷ u) a b long e = absurd (omega (arith, long))
-same_vectors (x ∷ t) [] a b long e = absurd (omega (arith, long))
-same_vectors (x ∷ t) (y ∷ u) a b long e =
-    let p = decimals-avoid 32 (inl (omega arith)) (x ∷ t) a in
-    let q = decimals-avoid 32 (inl (omega arith)) (y ∷ u) b in
+-- entries, of which there are as many
+same_entries : (t u : List ℕ) → AllByRecursion IsSmall t → AllByRecursion IsSmall u → length t ≡ length u → entries_text t ≡ entries_text u → t ≡ u
+same_entries [] [] a b long e = refl
+same_entries [] (y ∷ u) a b long e = absurd (omega (arith, long))
+same_entries (x ∷ t) [] a b long e = absurd (omega (arith, long))
+same_entries (x ∷ t) (y ∷ u) a b long e =
     same_numbers (x ∷ t) (y ∷ u) a b
-    (sym (split-join (decimal x) (map decimal t) p.0 p.1) ∙ ap (slice_split (λ b. eqb b 32)) e ∙ split-join (decimal y) (map decimal u) q.0 q.1)
+    (same_joined (decimal x) (decimal y) (map decimal t) (map decimal u) (decimals-avoid 32 (inl (omega arith)) (x ∷ t) a) (decimals-avoid 32 (inl (omega arith)) (y ∷ u) b) e)
+
+same_indices : (p q : List ℕ) → AllByRecursion IsSmall p → AllByRecursion IsSmall q → indices_text p ≡ indices_text q → p ≡ q
+same_indices p q a b e =
+    let avoids = λ (c : ℕ) (other : IsNoDigit c) (t : List ℕ) (h : AllByRecursion IsSmall t). decimals-avoid c other t h in
+    same_numbers p q a b
+    (same_listed (map decimal p) (map decimal q) (avoids 32 (inl (omega arith)) p a) (avoids 32 (inl (omega arith)) q b) (avoids 45 (inl (omega arith)) p a) (avoids 45 (inl (omega arith)) q b) e)
 
 -- ---- root letters
 
-abbrev AreSmallLetters : List (RingLetter ℕ) → Type 0
-AreSmallLetters w = AllByRecursion (λ (x : RingLetter ℕ). (x.0 < 2 ^ 64) × (x.1 < 2 ^ 64)) w
+-- a letter with small numbers
+abbrev pub IsSmallLetter : RingLetter ℕ → Type 0
+IsSmallLetter x = IsSmall x.0 × IsSmall x.1
 
-letter-avoids : (c : ℕ) → (c < 40) ⊎ (122 < c) → (x : RingLetter ℕ) → (x.0 < 2 ^ 64) × (x.1 < 2 ^ 64) → Avoids c (root_letter_text x)
+-- no byte of a letter: no digit, no `x` and no parenthesis
+abbrev IsOther : ℕ → Type 0
+IsOther c = IsNoDigit c × (eqb 120 c ≡ false) × (eqb 40 c ≡ false) × (eqb 41 c ≡ false)
+
+-- the bytes of a letter's text behind its `x`
+abbrev letter_bytes : RingLetter ℕ → List ℕ
+letter_bytes x = decimal x.0 ++ 40 ∷ (decimal x.1 ++ 41 ∷ [])
+
+regrouped_letter : (x : RingLetter ℕ) → root_letter_text x ≡ 120 ∷ letter_bytes x
+regrouped_letter x = simp append_assoc
+
+letter-avoids : (c : ℕ) → IsOther c → (x : RingLetter ℕ) → IsSmallLetter x → Avoids c (root_letter_text x)
 letter-avoids c other x h =
-    let digits : (c < 48) ⊎ (57 < c) = ⊎_elim (λ l. inl (omega (arith, l))) (λ l. inr (omega (arith, l))) other in
-    avoids-append c (codes "x" ++ decimal x.0 ++ codes "(" ++ decimal x.1) (41 ∷ [])
-    (avoids-append c (codes "x" ++ decimal x.0 ++ codes "(") (decimal x.1)
-    (avoids-append c (codes "x" ++ decimal x.0) (40 ∷ []) (plain 120 (λ e. ⊎_elim (λ l. absurd (omega (arith, l, e))) (λ l. absurd (omega (arith, l, e))) other), avoids-decimal c x.0 digits h.0)
-    (plain 40 (λ e. ⊎_elim (λ l. absurd (omega (arith, l, e))) (λ l. absurd (omega (arith, l, e))) other), tt)) (avoids-decimal c x.1 digits h.1))
-    (plain 41 (λ e. ⊎_elim (λ l. absurd (omega (arith, l, e))) (λ l. absurd (omega (arith, l, e))) other), tt)
-  where
-    plain : (b : ℕ) → (b ≡ c → ⊥) → eqb b c ≡ false
-    plain b other = ne_eqb b c other
+    subst (Avoids c) (sym (regrouped_letter x)) (
+      other.1,
+      avoids-append c (decimal x.0) (40 ∷ (decimal x.1 ++ 41 ∷ [])) (avoids-decimal c x.0 other.0 h.0)
+          (other.2, avoids-append c (decimal x.1) (41 ∷ []) (avoids-decimal c x.1 other.0 h.1) (other.3, tt)),
+    )
 
-letters-avoid : (c : ℕ) → (c < 40) ⊎ (122 < c) → (w : List (RingLetter ℕ)) → AreSmallLetters w → AllByRecursion (Avoids c) (map root_letter_text w)
+letters-avoid : (c : ℕ) → IsOther c → (w : List (RingLetter ℕ)) → AllByRecursion IsSmallLetter w → AllByRecursion (Avoids c) (map root_letter_text w)
 letters-avoid c other [] h = tt
 letters-avoid c other (x ∷ w) h = (letter-avoids c other x h.0, letters-avoid c other w h.1)
 
 -- a letter's text tells it
-same_letter : (x y : RingLetter ℕ) → (x.0 < 2 ^ 64) × (x.1 < 2 ^ 64) → (y.0 < 2 ^ 64) × (y.1 < 2 ^ 64) → root_letter_text x ≡ root_letter_text y → x ≡ y
+same_letter : (x y : RingLetter ℕ) → IsSmallLetter x → IsSmallLetter y → root_letter_text x ≡ root_letter_text y → x ≡ y
 same_letter x y h k e =
-    let bytes = λ (z : RingLetter ℕ). decimal z.0 ++ 40 ∷ (decimal z.1 ++ 41 ∷ []) in
-    let regroup : (z : RingLetter ℕ) → root_letter_text z ≡ 120 ∷ bytes z = λ z. simp append_assoc in
-    let rest : bytes x ≡ bytes y = (let whole = sym (regroup x) ∙ e ∙ regroup y in cc) in
+    let rest : letter_bytes x ≡ letter_bytes y = (let whole = sym (regrouped_letter x) ∙ e ∙ regrouped_letter y in cc) in
     let parts = same_parts 40 (decimal x.0) (decimal y.0) (decimal x.1 ++ 41 ∷ []) (decimal y.1 ++ 41 ∷ []) (avoids-decimal 40 x.0 (inl (omega arith)) h.0) (avoids-decimal 40 y.0 (inl (omega arith)) k.0) rest in
     let first = decimal_injective x.0 y.0 h.0 k.0 parts.0 in
     let second = decimal_injective x.1 y.1 h.1 k.1 (append_cancel_right (decimal x.1) (decimal y.1) (41 ∷ []) parts.1) in
     λ i. (first i, second i)
 
-same_letters : (v w : List (RingLetter ℕ)) → AreSmallLetters v → AreSmallLetters w → map root_letter_text v ≡ map root_letter_text w → v ≡ w
-same_letters [] [] h k e = refl
-same_letters [] (y ∷ w) h k e = absurd cc
-same_letters (x ∷ v) [] h k e = absurd cc
-same_letters (x ∷ v) (y ∷ w) h k e =
-    ap₂ (λ (a : RingLetter ℕ) (l : List (RingLetter ℕ)). a ∷ l)
-    (same_letter x y h.0 k.0 (head_is (root_letter_text x) (root_letter_text y) (map root_letter_text v) (map root_letter_text w) e))
-    (same_letters v w h.1 k.1 (tail_is (root_letter_text x) (root_letter_text y) (map root_letter_text v) (map root_letter_text w) e))
+same_letters : (v w : List (RingLetter ℕ)) → AllByRecursion IsSmallLetter v → AllByRecursion IsSmallLetter w → letters_text v ≡ letters_text w → v ≡ w
+same_letters v w h k e =
+    let blank : IsOther 32 = (inl (omega arith), refl, refl, refl) in
+    let dash : IsOther 45 = (inl (omega arith), refl, refl, refl) in
+    same_map IsSmallLetter root_letter_text same_letter v w h k
+    (same_listed (map root_letter_text v) (map root_letter_text w) (letters-avoid 32 blank v h) (letters-avoid 32 blank w k) (letters-avoid 45 dash v h) (letters-avoid 45 dash w k) e)
 
-first_byte : List ℕ → ℕ
-first_byte [] = 0
-first_byte (b ∷ bytes) = b
+-- what holds of a letter, and of the others, holds of the letters that aren't 0
+one_more : (P : RingLetter ℕ → Type 0) (t : Bool) (x : RingLetter ℕ) (w : List (RingLetter ℕ)) → P x → AllByRecursion P w → AllByRecursion P (cond (not t) (x ∷ w) w)
+one_more P true x w h k = k
+one_more P false x w h k = (h, k)
 
-letters_begin : (x : RingLetter ℕ) (w : List (RingLetter ℕ)) → first_byte (letters_text (x ∷ w)) ≡ 120
-unfolding first_byte
-letters_begin x [] = refl
-letters_begin x (y ∷ w) = refl
+-- the letters that aren't 0 from a root on have small numbers
+small_letters : (k : ℕ) (u : List ℕ) → k + length u < 2 ^ 64 → AllByRecursion IsSmall u → AllByRecursion IsSmallLetter (filter is_nonzero (full_from k u))
+small_letters k [] few h = tt
+small_letters k (a ∷ u) few h =
+    one_more IsSmallLetter (nat_eq a 0) (k, a) (filter is_nonzero (full_from (k + 1) u)) (omega (arith, few), h.0) (small_letters (k + 1) u (omega (arith, few)) h.1)
 
-no_begin : first_byte (letters_text []) ≡ 45
-unfolding first_byte
-no_begin = refl
+-- and none has a root before it
+letters-from : (j k : ℕ) (u : List ℕ) → j ≤ k → AllByRecursion (λ (x : RingLetter ℕ). j ≤ x.0) (filter is_nonzero (full_from k u))
+letters-from j k [] le = tt
+letters-from j k (a ∷ u) le =
+    one_more (λ (x : RingLetter ℕ). j ≤ x.0) (nat_eq a 0) (k, a) (filter is_nonzero (full_from (k + 1) u)) le (letters-from j (k + 1) u (omega (arith, le)))
 
-same_lists : (v w : List (RingLetter ℕ)) → AreSmallLetters v → AreSmallLetters w → letters_text v ≡ letters_text w → v ≡ w
-same_lists [] [] h k e = refl
-same_lists [] (y ∷ w) h k e = let no : 45 ≡ 120 = sym no_begin ∙ ap first_byte e ∙ letters_begin y w in absurd (omega (arith, no))
-same_lists (x ∷ v) [] h k e = let no : 120 ≡ 45 = sym (letters_begin x v) ∙ ap first_byte e ∙ no_begin in absurd (omega (arith, no))
-same_lists (x ∷ v) (y ∷ w) h k e =
-    let p = letters-avoid 32 (inl (omega arith)) (x ∷ v) h in
-    let q = letters-avoid 32 (inl (omega arith)) (y ∷ w) k in
-    same_letters (x ∷ v) (y ∷ w) h k
-    (sym (split-join (root_letter_text x) (map root_letter_text v) p.0 p.1) ∙ ap (slice_split (λ b. eqb b 32)) e ∙ split-join (root_letter_text y) (map root_letter_text w) q.0 q.1)
+-- so a letter at a root is no letter behind it
+letter_missing : (k c : ℕ) (w : List (RingLetter ℕ)) (u : List ℕ) → (k, c) ∷ w ≡ filter is_nonzero (full_from (k + 1) u) → ⊥
+letter_missing k c w u h =
+    let low = subst (AllByRecursion (λ (x : RingLetter ℕ). k + 1 ≤ x.0)) (sym h) (letters-from (k + 1) (k + 1) u (omega arith)) in
+    let first : k + 1 ≤ k = low.0 in
+    omega (arith, first)
 
-list-avoids : (w : List (RingLetter ℕ)) → AreSmallLetters w → Avoids 124 (letters_text w)
-list-avoids [] h = (refl, tt)
-list-avoids (x ∷ w) h = avoids-join 124 refl (map root_letter_text (x ∷ w)) (letters-avoid 124 (inr (omega arith)) (x ∷ w) h)
+-- equal letters of two lists are at equal elements
+same_first : (k a b : ℕ) (u v : List ℕ) (s t : Bool) → nat_eq a 0 ≡ s → nat_eq b 0 ≡ t
+    → ◌≡◌ {A = List (RingLetter ℕ)} (cond (not s) ((k, a) ∷ filter is_nonzero (full_from (k + 1) u)) (filter is_nonzero (full_from (k + 1) u)))
+    (cond (not t) ((k, b) ∷ filter is_nonzero (full_from (k + 1) v)) (filter is_nonzero (full_from (k + 1) v)))
+    → (a ≡ b) × (filter is_nonzero (full_from (k + 1) u) ≡ filter is_nonzero (full_from (k + 1) v))
+same_first k a b u v true true p q h =
+    let zeros : a ≡ b = grind (arith, nat_tests) in
+    (zeros, h)
+same_first k a b u v true false p q h = absurd (letter_missing k b (filter is_nonzero (full_from (k + 1) v)) u (sym h))
+same_first k a b u v false true p q h = absurd (letter_missing k a (filter is_nonzero (full_from (k + 1) u)) v h)
+same_first k a b u v false false p q h =
+    let letter = λ (n : ℕ). let x : RingLetter ℕ = (k, n) in x in
+    let first : letter a ≡ letter b = cc in
+    let rest : filter is_nonzero (full_from (k + 1) u) ≡ filter is_nonzero (full_from (k + 1) v) = cc in
+    (ap (λ (x : RingLetter ℕ). x.1) first, rest)
+
+-- as many elements with the same letters are the same
+same_elements : (k : ℕ) (u v : List ℕ) → length u ≡ length v → filter is_nonzero (full_from k u) ≡ filter is_nonzero (full_from k v) → u ≡ v
+same_elements k [] [] long e = refl
+same_elements k [] (b ∷ v) long e = absurd (omega (arith, long))
+same_elements k (a ∷ u) [] long e = absurd (omega (arith, long))
+same_elements k (a ∷ u) (b ∷ v) long e =
+    let parts = same_first k a b u v (nat_eq a 0) (nat_eq b 0) refl refl e in
+    ap₂ (λ (n : ℕ) (l : List ℕ). n ∷ l) parts.0 (same_elements (k + 1) u v (omega (arith, long)) parts.1)
 
 -- ---- forms
 
-abbrev ending : List ℕ
-ending = 32 ∷ 124 ∷ 32 ∷ 45 ∷ 32 ∷ 124 ∷ 32 ∷ 45 ∷ 10 ∷ []
+-- what stands before the first bar, and behind it
+at_bar : (a b x y : List ℕ) → Avoids 124 a → Avoids 124 b → a ++ (codes " | " ++ x) ≡ b ++ (codes " | " ++ y) → (a ≡ b) × (x ≡ y)
+at_bar a b x y h k e =
+    let regroup = λ (l m : List ℕ). append_assoc l (32 ∷ []) (124 ∷ 32 ∷ m) in
+    let parts = same_parts 124 (a ++ 32 ∷ []) (b ++ 32 ∷ []) (32 ∷ x) (32 ∷ y) (avoids-append 124 a (32 ∷ []) h (refl, tt)) (avoids-append 124 b (32 ∷ []) k (refl, tt))
+    (regroup a x ∙ e ∙ sym (regroup b y)) in
+    let behind : x ≡ y = (let h = parts.1 in cc) in
+    (append_cancel_right a b (32 ∷ []) parts.0, behind)
 
--- the text tells the letters and the torus vector
-text_tells : (u v t s : List ℕ) → AreSmallLetters (nonzero_letters u) → AreSmallLetters (nonzero_letters v) → AreSmall t → AreSmall s → length t ≡ length s → form_text u t ≡ form_text v s
-    → (nonzero_letters u ≡ nonzero_letters v) × (t ≡ s)
-text_tells u v t s a b c d long e =
-    let body = λ (w : List (RingLetter ℕ)) (x : List ℕ). (letters_text w ++ 32 ∷ []) ++ 124 ∷ (32 ∷ (join_with_byte 32 (map decimal x) ++ ending)) in
-    let regroup : (w : List (RingLetter ℕ)) (x : List ℕ) → letters_text w ++ codes " | " ++ join_with_byte 32 (map decimal x) ++ codes " | - | -\n" ≡ body w x = λ w x. simp append_assoc in
-    let avoids = λ (w : List (RingLetter ℕ)) (h : AreSmallLetters w). avoids-append 124 (letters_text w) (32 ∷ []) (list-avoids w h) (refl, tt) in
-    let parts = same_parts 124 (letters_text (nonzero_letters u) ++ 32 ∷ []) (letters_text (nonzero_letters v) ++ 32 ∷ [])
-    (32 ∷ (join_with_byte 32 (map decimal t) ++ ending)) (32 ∷ (join_with_byte 32 (map decimal s) ++ ending)) (avoids (nonzero_letters u) a) (avoids (nonzero_letters v) b)
-    (sym (regroup (nonzero_letters u) t) ∙ e ∙ regroup (nonzero_letters v) s) in
-    let behind : join_with_byte 32 (map decimal t) ++ ending ≡ join_with_byte 32 (map decimal s) ++ ending = (let h = parts.1 in cc) in (
-      same_lists (nonzero_letters u) (nonzero_letters v) a b (append_cancel_right (letters_text (nonzero_letters u)) (letters_text (nonzero_letters v)) (32 ∷ []) parts.0),
-      same_vectors t s c d long (append_cancel_right (join_with_byte 32 (map decimal t)) (join_with_byte 32 (map decimal s)) ending behind),
-    )
+-- lists of m elements, as many entries, and a word, all of small numbers
+pub record IsSmallForm (m d : ℕ) (x : FormData) (p : List ℕ) : Type 0 where
+  pub few : 1 + m < 2 ^ 64
+  pub first_long : length x.first ≡ m
+  pub first : AllByRecursion IsSmall x.first
+  pub torus_long : length x.torus ≡ d
+  pub torus : AllByRecursion IsSmall x.torus
+  pub word : AllByRecursion IsSmall p
+  pub second_long : length x.second ≡ m
+  pub second : AllByRecursion IsSmall x.second
 
--- a datum has few positive roots
-few_roots : (D : RootDatum) → IsLoaded D → length D.positive ≤ 120
-few_roots D loaded =
-    let a = loaded.axioms in
-    listed_few D.base (record { input = a.input; twos = a.twos; signs = a.signs; zeros = a.zeros }) a.unmixed D.positive loaded.listed a.finite
+-- two lists of elements with one text are equal
+same_list : (m : ℕ) (u v : List ℕ) → 1 + m < 2 ^ 64 → length u ≡ m → length v ≡ m → AllByRecursion IsSmall u → AllByRecursion IsSmall v
+    → letters_text (nonzero_letters u) ≡ letters_text (nonzero_letters v) → u ≡ v
+same_list m u v few a b h k e =
+    same_elements 1 u v (a ∙ sym b)
+    (same_letters (nonzero_letters u) (nonzero_letters v) (small_letters 1 u (omega (arith, few, a)) h) (small_letters 1 v (omega (arith, few, b)) k) e)
 
-small_units : (F : FiniteField) (t : List ℕ) → order F.given ≤ 256 → AreUnits F t → AreSmall t
-small_units F [] h u = tt
-small_units F (x ∷ t) h u = (omega (arith, h, u.0.1), small_units F t h u.1)
+list-avoids : (m : ℕ) (u : List ℕ) → 1 + m < 2 ^ 64 → length u ≡ m → AllByRecursion IsSmall u → Avoids 124 (letters_text (nonzero_letters u))
+list-avoids m u few long h =
+    let bar : IsOther 124 = (inr (omega arith), refl, refl, refl) in
+    avoids-listed 124 refl refl (map root_letter_text (nonzero_letters u)) (letters-avoid 124 bar (nonzero_letters u) (small_letters 1 u (omega (arith, few, long)) h))
 
-small_number : (D : RootDatum) (k : ℕ) → length D.positive ≤ 120 → IsNumber D (pos k) → k < 2 ^ 64
-small_number D zero few n = omega arith
-small_number D (suc k) few n = let l = within D.positive k n in omega (arith, l, few)
-
--- the letters of a word of the frame are small
-small_word : (f : FrameData) → order f.field.given ≤ 256 → length f.datum.positive ≤ 120 → (w : List (RingLetter ℕ)) (t : List ℕ) → IsWordOver f (root_letters w ++ H t ∷ [])
-    → AreSmallLetters w × AreSmall t × (dim f ≡ length t)
-small_word f h few [] t over = (tt, small_units f.field t h over.0.1, over.0.0)
-small_word f h few (x ∷ w) t over =
-    let rest = small_word f h few w t over.1 in
-    (((small_number f.datum x.0 few over.0.0, omega (arith, h, over.0.1)), rest.0), rest.1, rest.2)
-
--- the forms of two words with one text have one word
-pub replies_tell_words : (F : FiniteField) (D : RootDatum) (w v : List Letter) (text : List ℕ) → IsWithinLimit F.given → IsLoaded D → FormTextOf F D w text → FormTextOf F D v text → JoinedWords F D w v
-replies_tell_words F D w v text sized loaded x y c loads =
-    let f = frame_of F D c in
-    let few = few_roots D loaded in
-    let a = (x.form c loads).joined in
-    let b = (y.form c loads).joined in
-    let p = small_word f sized.q_small few (nonzero_letters x.roots) x.torus (JoinedSpelled-over f (form_word x.roots x.torus) w a) in
-    let q = small_word f sized.q_small few (nonzero_letters y.roots) y.torus (JoinedSpelled-over f (form_word y.roots y.torus) v b) in
-    let same = text_tells x.roots y.roots x.torus y.torus p.0 q.0 p.1 q.1 (sym p.2 ∙ q.2) (sym x.is ∙ y.is) in
-    let word : form_word x.roots x.torus ≡ form_word y.roots y.torus = ap₂ (λ (z : List (RingLetter ℕ)) (t : List ℕ). root_letters z ++ H t ∷ []) same.0 same.1 in
-    JoinedSpelled-trans f w (form_word x.roots x.torus) v (JoinedSpelled-flip f (form_word x.roots x.torus) w a) (subst (λ z. JoinedSpelled f z v) (sym word) b)
-
--- a word has one text alone
-pub one_text : (F : FiniteField) (D : RootDatum) (w : List Letter) (a b : List ℕ) → FormTextOf F D w a → FormTextOf F D w b → a ≡ b
-one_text F D w a b x y =
-    let c = x.loads.0 in
-    let p = x.form c x.loads.1 in
-    let q = y.form c x.loads.1 in
-    let roots = IsCollected-once (field_ring F) _ nat_lt (length D.positive) (moved_roots F D (ones D.base.dim) w) x.roots y.roots p.collected q.collected in
-    x.is ∙ ap₂ form_text roots (p.product ∙ sym q.product) ∙ sym y.is
-
--- ---- words of torus letters alone
-
-moved_none : (F : FiniteField) (D : RootDatum) (t : List ℕ) (w : List Letter) → AllByRecursion IsTorusLetter w → moved_roots F D t w ≡ []
-moved_none F D t [] h = refl
-moved_none F D t (X r a ∷ w) h = absurd h.0
-moved_none F D t (H s ∷ w) h = moved_none F D (times_each F t s) w h.1
-moved_none F D t (N i ∷ w) h = absurd h.0
-moved_none F D t (Ninv i ∷ w) h = absurd h.0
-
-ends_empty : (F : FiniteField) (terms : ℕ → ℕ → List CommutatorTerm) {w z : List (RingLetter ℕ)} → Ends (field_ring F) terms nat_lt w z → w ≡ [] → z ≡ []
-ends_empty F terms (at_end e) none = none
-ends_empty F terms (by_step {w = w} {v = v} e r) none = absurd (let h = sym e ∙ ap (rewritten (field_ring F) terms nat_lt) none in cc)
-
-abbrev no_letters : List (RingLetter ℕ)
-no_letters = []
-
-zeros_from : (s k n : ℕ) → filter is_nonzero (full_from s (map (λ (r : ℕ). unwrap_or (lookup (eqb r) no_letters) 0) (range_with_len k n))) ≡ []
-zeros_from s k zero = refl
-zeros_from s k (suc n) = zeros_from (s + 1) (k + 1) n
-
--- their forms have no root letters
-torus_form : (F : FiniteField) (D : RootDatum) (c : ConstantTable) (w : List Letter) (u t : List ℕ) → AllByRecursion IsTorusLetter w → IsFormOf (frame_of F D c) w u t → nonzero_letters u ≡ []
-torus_form F D c w u t torus form =
-    let none = ends_empty F _ form.collected.ends (moved_none F D (ones D.base.dim) w torus) in
-    ap nonzero_letters (form.collected.list ∙ ap (elements (field_ring F) (length D.positive)) none) ∙ zeros_from 1 1 (length D.positive)
-
-torus_joined : (F : FiniteField) (D : RootDatum) (c : ConstantTable) (w : List Letter) (u t : List ℕ) → AllByRecursion IsTorusLetter w → IsFormOf (frame_of F D c) w u t → JoinedSpelled (frame_of F D c) (H t ∷ []) w
-torus_joined F D c w u t torus form =
-    subst (λ (z : List (RingLetter ℕ)). JoinedSpelled (frame_of F D c) (root_letters z ++ H t ∷ []) w) (torus_form F D c w u t torus form) form.joined
-
--- two words of torus letters have the same reply exactly if a chain joins them
-pub replies_decide_torus_words : (F : FiniteField) (D : RootDatum) (w v : List Letter) (a b : List ℕ) → IsWithinLimit F.given → IsLoaded D → AllByRecursion IsTorusLetter w → AllByRecursion IsTorusLetter v
-    → FormTextOf F D w a → FormTextOf F D v b → ((a ≡ b) ↔ JoinedWords F D w v)
-replies_decide_torus_words F D w v a b sized loaded tw tv x y =
-    let c = x.loads.0 in
-    let f = frame_of F D c in
-    let p = x.form c x.loads.1 in
-    let q = y.form c x.loads.1 in
-    let decide = torus_letters_decide f w v x.torus y.torus (torus_joined F D c w x.roots x.torus tw p) (torus_joined F D c v y.roots y.torus tv q) in (
-      λ same. replies_tell_words F D w v a sized loaded x (subst (FormTextOf F D v) (sym same) y),
-      λ joined. x.is ∙ ap₂ (λ (z : List (RingLetter ℕ)) (t : List ℕ). letters_text z ++ codes " | " ++ join_with_byte 32 (map decimal t) ++ codes " | - | -\n")
-          (torus_form F D c w x.roots x.torus tw p ∙ sym (torus_form F D c v y.roots y.torus tv q)) (decide.1 (joined c x.loads.1)) ∙ sym y.is,
+-- two forms with one text have the same lists, torus vector and word
+pub text_tells : (m d : ℕ) (x y : FormData) (p q : List ℕ) → IsSmallForm m d x p → IsSmallForm m d y q → form_text x p ≡ form_text y q
+    → (x.first ≡ y.first) × (x.torus ≡ y.torus) × (p ≡ q) × (x.second ≡ y.second)
+text_tells m d x y p q a b e =
+    let behind_word = λ (z : FormData) (r : List ℕ). indices_text r ++ (codes " | " ++ letters_text (nonzero_letters z.second)) in
+    let behind_entries = λ (z : FormData) (r : List ℕ). entries_text z.torus ++ (codes " | " ++ behind_word z r) in
+    let regroup : (z : FormData) (r : List ℕ) → form_text z r ≡ letters_text (nonzero_letters z.first) ++ (codes " | " ++ behind_entries z r) = λ z r. simp append_assoc in
+    let bar : IsNoDigit 124 = inr (omega arith) in
+    let one = at_bar (letters_text (nonzero_letters x.first)) (letters_text (nonzero_letters y.first)) (behind_entries x p) (behind_entries y q)
+    (list-avoids m x.first a.few a.first_long a.first) (list-avoids m y.first b.few b.first_long b.first) (sym (regroup x p) ∙ e ∙ regroup y q) in
+    let two = at_bar (entries_text x.torus) (entries_text y.torus) (behind_word x p) (behind_word y q)
+    (avoids-join 124 refl (map decimal x.torus) (decimals-avoid 124 bar x.torus a.torus)) (avoids-join 124 refl (map decimal y.torus) (decimals-avoid 124 bar y.torus b.torus)) one.1 in
+    let three = at_bar (indices_text p) (indices_text q) (letters_text (nonzero_letters x.second)) (letters_text (nonzero_letters y.second))
+    (avoids-listed 124 refl refl (map decimal p) (decimals-avoid 124 bar p a.word)) (avoids-listed 124 refl refl (map decimal q) (decimals-avoid 124 bar q b.word)) two.1 in (
+      same_list m x.first y.first a.few a.first_long b.first_long a.first b.first one.0,
+      same_entries x.torus y.torus a.torus b.torus (a.torus_long ∙ sym b.torus_long) two.0,
+      same_indices p q a.word b.word three.0,
+      same_list m x.second y.second a.few a.second_long b.second_long a.second b.second three.1,
     )

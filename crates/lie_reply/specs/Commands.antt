@@ -1,27 +1,31 @@
 -- The texts that answer the commands of a loaded group: `form`, `constant` and `weyl`.
 -- Own: all texts.
-use Rattle.std.specs.Prelude.{◌≡◌, ℕ, ℤ, pos, true, nat_abs, List, map, Ok}
+use Rattle.std.specs.Prelude.{◌≡◌, ◌++◌, ℕ, ℤ, pos, true, nat_abs, List, map, codes}
 use Rattle.std.specs.List.{All}
 use Rattle.lie_const.specs.CommutatorTerms.{IsPair, AreTerms}
-use Rattle.lie_const.specs.ConstantTables.{ConstantTable, LoadsConstants}
 use Rattle.lie_const.specs.StructureConstants.{Table, StandsFor}
 use Rattle.lie_const.specs.declared.term.Term.{Term}
 use Rattle.lie_datum.specs.RootDatum.{rank}
 use Rattle.lie_datum.specs.RootList.{RootDatum}
-use Rattle.lie_field.specs.FiniteField.{FiniteField}
+use Rattle.lie_letters.specs.SignedFrames.{SignedFrame}
 use Rattle.lie_letters.specs.declared.letter.Letter.{Letter}
+use Rattle.lie_script.specs.FormTexts.{form_text}
 use Rattle.lie_script.specs.Numbers.{is_within}
+use Rattle.lie_unip.specs.Forms.{FormData, IsFormOf}
 use Rattle.lie_weyl.specs.WeylElement.{Spells, IsLength, IsLeastWord}
-use Rattle.lie_reply.specs.Forms.{frame_of, IsFormOf}
-use Rattle.lie_reply.specs.Texts.{form_text, constant_text, weyl_text}
+use Rattle.lie_reply.specs.Texts.{constant_text, weyl_text}
 
--- the text of the form of the word w, which is the same by every table of constants that loads for the datum
-pub record FormTextOf (F : FiniteField) (D : RootDatum) (w : List Letter) (text : List ℕ) : Type 0 where
-  pub roots : List ℕ
-  pub torus : List ℕ
-  pub loads : (c : ConstantTable) × LoadsConstants D (Ok c)
-  pub form : (c : ConstantTable) → LoadsConstants D (Ok c) → IsFormOf (frame_of F D c) w roots torus
-  pub is : text ≡ form_text roots torus
+-- the reply that has the text of the form x, along the least word of its Weyl element
+pub record TellsForm (D : RootDatum) (x : FormData) (text : List ℕ) : Type 0 where
+  pub word : List ℕ
+  pub least : IsLeastWord D word x.weyl
+  pub is : text ≡ form_text x word ++ codes "\n"
+
+-- the reply that has the text of a form of the word w
+pub record FormTextOf (g : SignedFrame) (w : List Letter) (text : List ℕ) : Type 0 where
+  pub form : FormData
+  pub stands : IsFormOf g form w
+  pub tells : TellsForm g.datum form text
 
 -- the text of N_pq and of the terms of the two roots p and q, by a table that stands for the datum
 pub record ConstantTextOf (D : RootDatum) (p q : ℤ) (text : List ℕ) : Type 0 where

@@ -1,4 +1,3 @@
-pub mod Forms
 pub mod Texts
 pub mod Commands
 pub mod Laws

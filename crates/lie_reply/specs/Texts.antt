@@ -3,22 +3,18 @@
 --
 --   loaded q d n e     the elements of the field, the coordinates, the roots, and the dimension of the faithful module:
 --                      d where there are no roots, else `-`
---   u | t | - | -       a form: the letters of its elements, its torus vector, and no Weyl letters
 --   n | i j k c ..      N_rs, then a term: the exponents, the number of the root i r + j s, and C_ijrs
 --   n | w | r          the length, the least word and the images of the simple roots; `-` stands for an empty list
 --   roots m            then a line for each positive root: its number, its coefficients, its vector and that of its coroot
 use Rattle.std.specs.Prelude.{ℕ, ◌+◌, ◌*◌, nat_eq, if◌then◌else◌, ℤ, pos, List, [], ◌∷◌, ◌++◌, map, flat_map, take, length, codes, decimal}
 use Rattle.std.specs.Fmt.{signed_decimal}
-use Rattle.std.specs.List.{join_with_byte}
 use Rattle.lie_const.specs.declared.term.Term.{Term}
 use Rattle.lie_datum.specs.RootDatum.{Base, rank, vector, covector}
 use Rattle.lie_datum.specs.declared.root_pair.Root.{Root}
 use Rattle.lie_datum.specs.RootList.{RootDatum}
 use Rattle.lie_field.specs.FiniteField.{FiniteField}
 use Rattle.lie_field.specs.Quotient.{order}
-use Rattle.lie_letters.specs.RingLetters.{RingLetter}
 use Rattle.lie_script.specs.Texts.{spaced}
-use Rattle.lie_reply.specs.Forms.{nonzero_letters}
 
 -- the dimension, where it is known
 abbrev pub dimension_text : Base → List ℕ
@@ -29,24 +25,6 @@ abbrev pub loaded_text : FiniteField → RootDatum → List ℕ
 loaded_text F D =
     codes "loaded " ++ decimal (order F.given) ++ codes " " ++ decimal D.base.dim ++ codes " " ++ decimal (2 * length D.positive)
     ++ codes " " ++ dimension_text D.base ++ codes "\n"
-
--- the text of a root letter
-abbrev pub root_letter_text : RingLetter ℕ → List ℕ
-root_letter_text x = codes "x" ++ decimal x.0 ++ codes "(" ++ decimal x.1 ++ codes ")"
-
--- a text behind another one, with a space between where that isn't empty
-abbrev pub behind_space : List ℕ → List ℕ → List ℕ
-behind_space [] text = text
-behind_space (b ∷ bytes) text = b ∷ bytes ++ 32 ∷ text
-
--- the texts of root letters with one space between, or `-` where there is none
-abbrev pub letters_text : List (RingLetter ℕ) → List ℕ
-letters_text [] = codes "-"
-letters_text (x ∷ w) = join_with_byte 32 (map root_letter_text (x ∷ w))
-
--- the text of a form without Weyl letters, by its elements and its torus vector
-abbrev pub form_text : List ℕ → List ℕ → List ℕ
-form_text u t = letters_text (nonzero_letters u) ++ codes " | " ++ join_with_byte 32 (map decimal t) ++ codes " | - | -\n"
 
 -- the line of the positive root with the number k
 abbrev pub root_text : Base → ℕ → Root → List ℕ

@@ -1,10 +1,11 @@
 //! The texts that answer the commands of a loaded group.
 //!
 //! Each call gives one text: `loaded_text` and `roots_text` of a field and a root datum, `form_text` of a
-//! word, `constant_text` of two roots, `weyl_text` of a product of simple reflections, `module_text` of a
-//! named module, `matrix_text` of a matrix. Contracts cite `specs/Texts.antt` (how values are written),
-//! `specs/Forms.antt` (the form of a word), `specs/Modules.antt` (modules and matrices) and
-//! `specs/Commands.antt` (which values a command asks for). The crate stands on `lie_field`, `lie_dense`,
+//! Bruhat form, `constant_text` of two roots, `weyl_text` of a product of simple reflections, `module_text`
+//! of a named module, `matrix_text` of a matrix. Contracts cite `specs/Texts.antt` (how values are written),
+//! `specs/Modules.antt` (modules and matrices) and `specs/Commands.antt` (which values a command asks for,
+//! the text of a form of a word among them), and lie_script `specs/FormTexts.antt` (how a form is written);
+//! what equal replies mean are public functions of `laws`. The crate stands on `lie_field`, `lie_dense`,
 //! `lie_datum`, `lie_weyl`, `lie_const`, `lie_letters`, `lie_unip` and `lie_script`.
 #![tactic(auto)]
 
@@ -17,7 +18,7 @@ mod weyl;
 
 pub use constant::constant_text;
 pub use form::form_text;
-pub use laws::{replies_decide_torus_words, replies_tell_words};
+pub use laws::{equal_texts_equal_forms, replies_tell_words};
 pub use modules::{matrix_text, module_text};
 pub use texts::{loaded_text, roots_text};
 pub use weyl::weyl_text;

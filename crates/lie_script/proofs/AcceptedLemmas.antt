@@ -1,14 +1,14 @@
 -- What holds of the lines that pass their checks.
 use Rattle.std.proofs.Common.{◌≡◌, ◌≢◌, ℕ, ◌+◌, true, List, [], ◌∷◌, length, ℤ, pos, nat_abs, ◌∙◌, arith, Ok, refl, sym, subst, ◌≤◌, Bool, false, Option, Some, None, negsuc, ◌<◌}
 use Rattle.std.specs.Prelude.{◌&&◌, ◌||◌, not, nat_eq, nat_lt, nat_le, is_some, IfOk}
-use Rattle.std.proofs.lemmas.Bool.{false≢true}
 use Rattle.std.specs.List.{All, AllByRecursion}
 use Rattle.std.proofs.lemmas.List.{length-take}
 use Rattle.std.proofs.lemmas.List.Elements.{All-take, All-from_recursion}
 use Rattle.std.proofs.lemmas.Bool.{eqb-true}
 use Rattle.std.proofs.lemmas.Result.{IfOk-at_ok}
 use Rattle.lie_letters.specs.Spelled.{IsWordOver}
-use Rattle.lie_script.specs.Accepted.{IsNewName, Fits, AcceptedLinesFit}
+use Rattle.lie_letters.specs.declared.letter.Letter.{Letter}
+use Rattle.lie_script.specs.Accepted.{IsWordWithin, IsNewName, Fits, AcceptedLinesFit}
 use Rattle.lie_script.specs.Checks.{unless, found, none_at}
 use Rattle.lie_script.specs.Fields.{Span, fields_of, foreign_from, begins_with}
 use Rattle.lie_script.specs.Kinds.{field_of, field_line, datum_line, vector, root_line, coroot_line, bare_line, word_line, constant_line, is_dash, weyl_of, weyl_line}
@@ -21,7 +21,6 @@ use Rattle.lie_script.specs.declared.allowed.Allowed.{Allowed}
 use Rattle.lie_script.specs.declared.allowed.Allowed.TheVariants.{Within, RootOf}
 use Rattle.lie_script.specs.declared.faults.FaultName.TheVariants as fault
 use Rattle.lie_script.specs.declared.faults.Fault.TheVariants.{Bare, At}
-use Rattle.lie_script.specs.declared.letter_set.LetterSet.TheVariants as taken
 use Rattle.lie_script.specs.declared.module_kind.ModuleKind.{ModuleKind}
 use Rattle.lie_script.specs.declared.module_kind.ModuleKind.TheVariants.{Adjoint, Orbit}
 use Rattle.lie_script.specs.declared.keyword.Keyword.{Keyword}
@@ -30,7 +29,7 @@ use Rattle.lie_script.specs.declared.sizes.Sizes.{Sizes}
 use Rattle.lie_script.specs.declared.sizes.Wants.{Wants}
 use Rattle.lie_script.specs.declared.sizes.Wants.TheVariants as wants
 use Rattle.lie_script.proofs.Steps.{unless-ok, bind-all, unless-all, if-all, each-ok, IfOk-from}
-use Rattle.lie_script.proofs.Elements.{AreBorel, word-borel, word-over}
+use Rattle.lie_script.proofs.Elements.{word-over}
 
 -- a number that was read is allowed
 number-allowed : (allowed : Allowed) (field : Span) → IfOk (number allowed field) (λ n. allows allowed n ≡ true)
@@ -54,6 +53,7 @@ awaited_by keyword.Field = wants.Field
 awaited_by keyword.Datum = wants.Datum
 awaited_by keyword.Root = wants.Root
 awaited_by keyword.Coroot = wants.Coroot
+awaited_by keyword.Collect = wants.Load
 awaited_by keyword.Load = wants.Load
 awaited_by keyword.Form = wants.Command
 awaited_by keyword.Roots = wants.Command
@@ -65,71 +65,18 @@ awaited_by keyword.Matrix = wants.Command
 -- a word that begins a line was awaited
 begun : (word : Keyword) (awaited : Wants) → begins word awaited ≡ true → awaited ≡ awaited_by word
 begun keyword.Field wants.Field due = refl
-begun keyword.Field wants.Datum due = absurd cc
-begun keyword.Field wants.Root due = absurd cc
-begun keyword.Field wants.Coroot due = absurd cc
-begun keyword.Field wants.Load due = absurd cc
-begun keyword.Field wants.Command due = absurd cc
-begun keyword.Datum wants.Field due = absurd cc
 begun keyword.Datum wants.Datum due = refl
-begun keyword.Datum wants.Root due = absurd cc
-begun keyword.Datum wants.Coroot due = absurd cc
-begun keyword.Datum wants.Load due = absurd cc
-begun keyword.Datum wants.Command due = absurd cc
-begun keyword.Root wants.Field due = absurd cc
-begun keyword.Root wants.Datum due = absurd cc
 begun keyword.Root wants.Root due = refl
-begun keyword.Root wants.Coroot due = absurd cc
-begun keyword.Root wants.Load due = absurd cc
-begun keyword.Root wants.Command due = absurd cc
-begun keyword.Coroot wants.Field due = absurd cc
-begun keyword.Coroot wants.Datum due = absurd cc
-begun keyword.Coroot wants.Root due = absurd cc
 begun keyword.Coroot wants.Coroot due = refl
-begun keyword.Coroot wants.Load due = absurd cc
-begun keyword.Coroot wants.Command due = absurd cc
-begun keyword.Load wants.Field due = absurd cc
-begun keyword.Load wants.Datum due = absurd cc
-begun keyword.Load wants.Root due = absurd cc
-begun keyword.Load wants.Coroot due = absurd cc
+begun keyword.Collect wants.Load due = refl
 begun keyword.Load wants.Load due = refl
-begun keyword.Load wants.Command due = absurd cc
-begun keyword.Form wants.Field due = absurd cc
-begun keyword.Form wants.Datum due = absurd cc
-begun keyword.Form wants.Root due = absurd cc
-begun keyword.Form wants.Coroot due = absurd cc
-begun keyword.Form wants.Load due = absurd cc
 begun keyword.Form wants.Command due = refl
-begun keyword.Roots wants.Field due = absurd cc
-begun keyword.Roots wants.Datum due = absurd cc
-begun keyword.Roots wants.Root due = absurd cc
-begun keyword.Roots wants.Coroot due = absurd cc
-begun keyword.Roots wants.Load due = absurd cc
 begun keyword.Roots wants.Command due = refl
-begun keyword.Constant wants.Field due = absurd cc
-begun keyword.Constant wants.Datum due = absurd cc
-begun keyword.Constant wants.Root due = absurd cc
-begun keyword.Constant wants.Coroot due = absurd cc
-begun keyword.Constant wants.Load due = absurd cc
 begun keyword.Constant wants.Command due = refl
-begun keyword.Weyl wants.Field due = absurd cc
-begun keyword.Weyl wants.Datum due = absurd cc
-begun keyword.Weyl wants.Root due = absurd cc
-begun keyword.Weyl wants.Coroot due = absurd cc
-begun keyword.Weyl wants.Load due = absurd cc
 begun keyword.Weyl wants.Command due = refl
-begun keyword.Module wants.Field due = absurd cc
-begun keyword.Module wants.Datum due = absurd cc
-begun keyword.Module wants.Root due = absurd cc
-begun keyword.Module wants.Coroot due = absurd cc
-begun keyword.Module wants.Load due = absurd cc
 begun keyword.Module wants.Command due = refl
-begun keyword.Matrix wants.Field due = absurd cc
-begun keyword.Matrix wants.Datum due = absurd cc
-begun keyword.Matrix wants.Root due = absurd cc
-begun keyword.Matrix wants.Coroot due = absurd cc
-begun keyword.Matrix wants.Load due = absurd cc
 begun keyword.Matrix wants.Command due = refl
+begun word awaited due = absurd cc
 
 field_of-fits : (sizes : Sizes) (listed : Listed) (fields : List Span) (all : List ℤ) → AllByRecursion (λ n. is_within (pos 0) (pos 1000000) n ≡ true) all → IfOk (field_of fields all) (Fits wants.Field sizes listed)
 unfolding field_of
@@ -203,14 +150,21 @@ module_line-fits sizes listed (name ∷ kind ∷ fields) =
     let P = Fits wants.Command sizes listed in
     unless-all P (is_name name.bytes) _ _ (λ spelled. bind-all P (found (kind_of kind.bytes) (At fault.Kind kind.column)) _ (λ k is. kind_line-fits sizes listed name k fields spelled))
 
+-- a word that was read is a word of each frame with the sizes
+word-within : (sizes : Sizes) (fields : List Span) (w : List Letter) → word sizes fields ≡ Ok w → IsWordWithin sizes w
+word-within sizes fields w is f q_is has loaded = IfOk-at_ok (IsWordOver f) is (word-over f sizes fields q_is has loaded)
+
+word_line-within : (sizes : Sizes) (fields : List Span) (w : List Letter) → word_line sizes fields ≡ Ok w → IsWordWithin sizes w
+unfolding word_line
+word_line-within sizes fields w is = word-within sizes fields w (unless-ok (nat_le 1 (length fields)) (At fault.Fields (length fields)) (word sizes fields) w is).1
+
 matrix_line-fits : (sizes : Sizes) (listed : Listed) (fields : List Span) → IfOk (matrix_line sizes listed fields) (Fits wants.Command sizes listed)
 unfolding matrix_line
 matrix_line-fits sizes listed [] = tt
 matrix_line-fits sizes listed (name ∷ []) = tt
 matrix_line-fits sizes listed (name ∷ first ∷ fields) =
     let P = Fits wants.Command sizes listed in
-    unless-all P (is_some (dimension_of listed name.bytes)) _ _ (λ known. bind-all P (word taken.All sizes (first ∷ fields)) _ (λ w is.
-    (refl, known, λ f q_is has loaded. IfOk-at_ok (IsWordOver f) is (word-over f taken.All sizes (first ∷ fields) q_is has (λ e. loaded)))))
+    unless-all P (is_some (dimension_of listed name.bytes)) _ _ (λ known. bind-all P (word sizes (first ∷ fields)) _ (λ w is. (refl, known, word-within sizes (first ∷ fields) w is)))
 
 own_line-fits : (sizes : Sizes) (listed : Listed) (word : Keyword) (fields : List Span) → IfOk (own_line sizes listed word fields) (Fits (awaited_by word) sizes listed)
 unfolding own_line field_line root_line coroot_line bare_line word_line weyl_line
@@ -219,13 +173,9 @@ own_line-fits sizes listed keyword.Field fields =
 own_line-fits sizes listed keyword.Datum fields = datum_line-fits sizes listed fields
 own_line-fits sizes listed keyword.Root fields = bind-all (Fits wants.Root sizes listed) (vector sizes.d _ fields) _ (λ v is. (refl, IfOk-at_ok (λ v. length v ≡ sizes.d) is (vector-long sizes.d _ fields)))
 own_line-fits sizes listed keyword.Coroot fields = bind-all (Fits wants.Coroot sizes listed) (vector sizes.d _ fields) _ (λ v is. (refl, IfOk-at_ok (λ v. length v ≡ sizes.d) is (vector-long sizes.d _ fields)))
+own_line-fits sizes listed keyword.Collect fields = bind-all (Fits wants.Load sizes listed) (word_line sizes fields) _ (λ w is. (refl, word_line-within sizes fields w is))
 own_line-fits sizes listed keyword.Load fields = unless-all (Fits wants.Load sizes listed) (nat_eq (length fields) 0) _ _ (λ counted. refl)
-own_line-fits sizes listed keyword.Form fields =
-    bind-all (Fits wants.Command sizes listed) (word_line sizes fields) _ (λ w is. (
-      refl,
-      IfOk-at_ok AreBorel is (unless-all AreBorel (nat_le 1 (length fields)) _ (word taken.Borel sizes fields) (λ some. word-borel sizes fields)),
-      λ f q_is has. IfOk-at_ok (IsWordOver f) is (unless-all (IsWordOver f) (nat_le 1 (length fields)) _ (word taken.Borel sizes fields) (λ some. word-over f taken.Borel sizes fields q_is has (λ e. absurd (false≢true e)))),
-    ))
+own_line-fits sizes listed keyword.Form fields = bind-all (Fits wants.Command sizes listed) (word_line sizes fields) _ (λ w is. (refl, word_line-within sizes fields w is))
 own_line-fits sizes listed keyword.Roots fields = unless-all (Fits wants.Command sizes listed) (nat_eq (length fields) 0) _ _ (λ counted. refl)
 own_line-fits sizes listed keyword.Constant fields = constant_line-fits sizes listed fields
 own_line-fits sizes listed keyword.Module fields = module_line-fits sizes listed fields

@@ -1,14 +1,11 @@
 -- Elements and letters that were read are those of the frame.
-use Rattle.std.proofs.Common.{◌≡◌, ℕ, zero, suc, ◌+◌, ◌<◌, ◌≤◌, ℤ, pos, neg_ℤ, ◌<ℤ◌, Bool, true, false, cond, Option, Some, None, List, [], ◌∷◌, length, take, drop, sym, subst, arith, Ok}
-use Rattle.std.proofs.lemmas.Bool.{false≢true}
-use Rattle.std.proofs.lemmas.Int.{ints}
-use Rattle.std.specs.List.{AllByRecursion}
+use Rattle.std.proofs.Common.{◌≡◌, ℕ, zero, suc, ◌+◌, ◌<◌, ◌≤◌, ℤ, pos, neg_ℤ, Bool, true, false, cond, Option, Some, None, List, [], ◌∷◌, length, take, drop, sym, subst, arith, Ok}
 use Rattle.lie_datum.specs.RootList.{RootDatum, IsLoaded, IsNumber}
 use Rattle.lie_datum.specs.RootDatum.{rank}
 use Rattle.lie_datum.proofs.SignedRoots.{opposite_number}
 use Rattle.lie_letters.proofs.NameLemmas.{index_of, number_of_index}
 use Rattle.lie_datum.proofs.NumberLemmas.{some_within}
-use Rattle.std.specs.Prelude.{not, ◌&&◌, ◌||◌, nat_eq, nat_lt, nat_le, filter, IfOk}
+use Rattle.std.specs.Prelude.{not, ◌&&◌, nat_eq, nat_lt, nat_le, filter, IfOk}
 use Rattle.lie_field.specs.FiniteField.{FiniteField}
 use Rattle.lie_field.specs.Quotient.{order}
 use Rattle.lie_letters.specs.Entries.{IsUnit, AreUnits}
@@ -18,17 +15,14 @@ use Rattle.lie_letters.specs.declared.letter.Letter.{Letter}
 use Rattle.lie_letters.specs.declared.letter.Letter.TheVariants.{X, H, N, Ninv}
 use Rattle.lie_script.specs.Checks.{◌>>=◌, unless, found}
 use Rattle.lie_script.specs.Fields.{Span, begins_with, behind_first, place_of, before_last}
-use Rattle.lie_script.specs.Letters.{element, takes_all, root, not_negative, root_element, root_letter, simple, weyl_by, weyl_letter, unit, units, spelled, spelled_list, torus_letter, letter_from, letter, letters, few_letters, word, is_letter}
-use Rattle.lie_script.specs.Accepted.{IsBorelLetter}
+use Rattle.lie_script.specs.Letters.{element, root, root_element, root_letter, simple, weyl_by, weyl_letter, unit, units, spelled, spelled_list, torus_letter, letter_from, letter, letters, few_letters, word, is_letter}
 use Rattle.lie_script.specs.Numbers.{unsigned, signed}
 use Rattle.lie_script.specs.Setting.{HasField, HasDatum}
 use Rattle.lie_script.specs.declared.faults.Fault.{Fault}
 use Rattle.lie_script.specs.declared.faults.FaultName.TheVariants as fault
 use Rattle.lie_script.specs.declared.faults.Fault.TheVariants.{At}
-use Rattle.lie_script.specs.declared.letter_set.LetterSet.{LetterSet}
-use Rattle.lie_script.specs.declared.letter_set.LetterSet.TheVariants.{Borel, All}
 use Rattle.lie_script.specs.declared.sizes.Sizes.{Sizes}
-use Rattle.lie_script.proofs.Steps.{bind-ok, unless-ok, Ok-is, if-known, each-ok, bind-all, unless-all, if-all, each-all}
+use Rattle.lie_script.proofs.Steps.{bind-ok, unless-ok, Ok-is, each-ok, bind-all, unless-all, if-all, each-all}
 
 -- an element that was read isn't 0
 unit-ok : (F : FiniteField) (q column a b : ℕ) → order F.given ≡ q → unit q column a ≡ Ok b → IsUnit F b
@@ -71,22 +65,22 @@ root-ok m column number k r h =
     let named = unless-ok (nat_le 1 k && nat_le k m) (At fault.Root column) (Ok (signed number k)) r h in
     (grind (arith, named.0), grind (arith, named.0), sym (Ok-is (signed number k) r named.1))
 
--- P of each root element that the set takes
-abbrev IfRoot : (Letter → Type 0) → LetterSet → Sizes → Type 0
-IfRoot P taken sizes = (number : List ℕ) (k a : ℕ) → 1 ≤ k → k ≤ sizes.m → a < sizes.q → (takes_all taken || not_negative number k) ≡ true → P (X (signed number k) a)
+-- P of each root element
+abbrev IfRoot : (Letter → Type 0) → Sizes → Type 0
+IfRoot P sizes = (number : List ℕ) (k a : ℕ) → 1 ≤ k → k ≤ sizes.m → a < sizes.q → P (X (signed number k) a)
 
--- what holds of each root element that is taken holds of what is read
-root_element-all : (P : Letter → Type 0) (taken : LetterSet) (sizes : Sizes) (column : ℕ) (number inner : List ℕ) → IfRoot P taken sizes → IfOk (root_element taken sizes column number inner) P
-root_element-all P taken sizes column number inner h =
-    bind-all P (spelled column (unsigned number)) _ (λ k is. bind-all P (spelled column inner) _ (λ a is. unless-all P (takes_all taken || not_negative number k) _ _ (λ fine.
-    bind-all P (root sizes.m column number k) _ (λ r is. bind-all P (element sizes.q column a) _ (λ b are. (let named = root-ok sizes.m column number k r is in
-    subst (λ z. P (X z b)) (sym named.2) (h number k b named.0 named.1 (element-ok sizes.q column a b are) fine)))))))
+-- what holds of each root element holds of what is read
+root_element-all : (P : Letter → Type 0) (sizes : Sizes) (column : ℕ) (number inner : List ℕ) → IfRoot P sizes → IfOk (root_element sizes column number inner) P
+root_element-all P sizes column number inner h =
+    bind-all P (spelled column (unsigned number)) _ (λ k is. bind-all P (spelled column inner) _ (λ a is. bind-all P (root sizes.m column number k) _ (λ r is.
+    bind-all P (element sizes.q column a) _ (λ b are. (let named = root-ok sizes.m column number k r is in
+    subst (λ z. P (X z b)) (sym named.2) (h number k b named.0 named.1 (element-ok sizes.q column a b are)))))))
 
-root_letter-all : (P : Letter → Type 0) (taken : LetterSet) (sizes : Sizes) (column : ℕ) (bytes : List ℕ) → IfRoot P taken sizes → IfOk (root_letter taken sizes column bytes) P
+root_letter-all : (P : Letter → Type 0) (sizes : Sizes) (column : ℕ) (bytes : List ℕ) → IfRoot P sizes → IfOk (root_letter sizes column bytes) P
 unfolding root_letter
-root_letter-all P taken sizes column bytes h =
+root_letter-all P sizes column bytes h =
     unless-all P (nat_lt (place_of 40 bytes) (length bytes)) _ _ (λ opened. bind-all P (found (before_last 41 (drop (place_of 40 bytes + 1) bytes)) (At fault.Letter column)) _ (λ inner is.
-    root_element-all P taken sizes column (take (place_of 40 bytes) bytes) inner h))
+    root_element-all P sizes column (take (place_of 40 bytes) bytes) inner h))
 
 -- an index that was read is that of a simple root
 simple-ok : (l column : ℕ) (digits : List ℕ) (i : ℕ) → simple l column digits ≡ Ok i → (1 ≤ i) × (i ≤ l)
@@ -119,60 +113,24 @@ index-within : (D : RootDatum) → IsLoaded D → (i : ℕ) → 1 ≤ i → i �
 index-within D loaded zero low high = absurd (omega (arith, low))
 index-within D loaded (suc k) low high = let i = index_of D loaded k (omega (arith, high)) in subst (λ n. IsIndex D (suc n)) i.1 (number_of_index D i.0)
 
-root_letter-over : (f : FrameData) (taken : LetterSet) (sizes : Sizes) (column : ℕ) (bytes : List ℕ) → HasField sizes f.field → HasDatum sizes f.datum → IfOk (root_letter taken sizes column bytes) (IsLetterOver f)
-root_letter-over f taken sizes column bytes q_is has =
-    root_letter-all (IsLetterOver f) taken sizes column bytes (λ number k a low high below fine. (signed-within f.datum number k low (omega (arith, high, has.m_is)), omega (arith, below, q_is)))
+root_letter-over : (f : FrameData) (sizes : Sizes) (column : ℕ) (bytes : List ℕ) → HasField sizes f.field → HasDatum sizes f.datum → IfOk (root_letter sizes column bytes) (IsLetterOver f)
+root_letter-over f sizes column bytes q_is has =
+    root_letter-all (IsLetterOver f) sizes column bytes (λ number k a low high below. (signed-within f.datum number k low (omega (arith, high, has.m_is)), omega (arith, below, q_is)))
 
 weyl_letter-over : (f : FrameData) (sizes : Sizes) (column : ℕ) (bytes : List ℕ) → HasDatum sizes f.datum → IsLoaded f.datum → IfOk (weyl_letter sizes column bytes) (IsLetterOver f)
 weyl_letter-over f sizes column bytes has loaded =
     weyl_letter-all (IsLetterOver f) sizes column bytes (λ i low high. (let index = index-within f.datum loaded i low (omega (arith, high, has.l_is)) in (index, index)))
 
-both-right : (a b : Bool) → (a && b) ≡ true → b ≡ true
-both-right true b h = h
-both-right false b h = absurd cc
-
 -- a letter that was read is a letter of the frame
-letter-over : (f : FrameData) (taken : LetterSet) (sizes : Sizes) (column : ℕ) (bytes : List ℕ) → HasField sizes f.field → HasDatum sizes f.datum → (takes_all taken ≡ true → IsLoaded f.datum)
-    → IfOk (letter_from taken sizes column bytes) (IsLetterOver f)
-letter-over f taken sizes column [] q_is has loaded = tt
-letter-over f taken sizes column (b ∷ bytes) q_is has loaded =
+letter-over : (f : FrameData) (sizes : Sizes) (column : ℕ) (bytes : List ℕ) → HasField sizes f.field → HasDatum sizes f.datum → IsLoaded f.datum → IfOk (letter_from sizes column bytes) (IsLetterOver f)
+letter-over f sizes column [] q_is has loaded = tt
+letter-over f sizes column (b ∷ bytes) q_is has loaded =
     let P = IsLetterOver f in
-    if-all P (nat_eq b 104) _ _ (torus_letter-over f sizes column bytes q_is has) (if-all P (nat_eq b 120) _ _ (root_letter-over f taken sizes column bytes q_is has)
-    (if-known P (nat_eq b 110 && takes_all taken) _ _ (λ known. weyl_letter-over f sizes column bytes has (loaded (both-right (nat_eq b 110) (takes_all taken) known))) tt))
+    if-all P (nat_eq b 104) _ _ (torus_letter-over f sizes column bytes q_is has) (if-all P (nat_eq b 120) _ _ (root_letter-over f sizes column bytes q_is has)
+    (if-all P (nat_eq b 110) _ _ (weyl_letter-over f sizes column bytes has loaded) tt))
 
 -- a word that was read is a word of the frame
-pub word-over : (f : FrameData) (taken : LetterSet) (sizes : Sizes) (fields : List Span) → HasField sizes f.field → HasDatum sizes f.datum → (takes_all taken ≡ true → IsLoaded f.datum) → IfOk (word taken sizes fields) (IsWordOver f)
+pub word-over : (f : FrameData) (sizes : Sizes) (fields : List Span) → HasField sizes f.field → HasDatum sizes f.datum → IsLoaded f.datum → IfOk (word sizes fields) (IsWordOver f)
 unfolding word letters letter
-word-over f taken sizes fields q_is has loaded =
-    bind-all (IsWordOver f) (few_letters fields) (λ few. letters taken sizes fields) (λ few is. each-all (IsLetterOver f) (letter taken sizes) (λ field. letter-over f taken sizes field.column field.bytes q_is has loaded) (filter is_letter fields))
-
--- each letter is one of the Borel subgroup
-abbrev pub AreBorel : List Letter → Type 0
-AreBorel w = AllByRecursion IsBorelLetter w
-
-torus_letter-borel : (sizes : Sizes) (column : ℕ) (bytes : List ℕ) → IfOk (torus_letter sizes column bytes) IsBorelLetter
-unfolding torus_letter
-torus_letter-borel sizes column bytes =
-    let P = IsBorelLetter in
-    bind-all P (found (behind_first 40 bytes) (At fault.Letter column)) _ (λ opened is. bind-all P (found (before_last 41 opened) (At fault.Letter column)) _ (λ inner is. bind-all P (spelled_list column inner) _ (λ numbers is.
-    unless-all P (nat_eq (length numbers) sizes.d) _ _ (λ sized. bind-all P (units sizes.q column numbers) _ (λ t read. tt)))))
-
--- a number that isn't negative is positive where it isn't 0
-signed-positive : (number : List ℕ) (k : ℕ) → 1 ≤ k → not_negative number k ≡ true → pos 0 <ℤ signed number k
-signed-positive number k low fine = by (begins_with 45 number) fine where
-  by : (t : Bool) → (not t || nat_eq k 0) ≡ true → pos 0 <ℤ cond t (neg_ℤ (pos k)) (pos k)
-  by true h = absurd (let none : k ≡ 0 = grind (arith, h) in omega (arith, none, low))
-  by false h = omega (arith, ints, low)
-
-letter-borel : (sizes : Sizes) (column : ℕ) (bytes : List ℕ) → IfOk (letter_from Borel sizes column bytes) IsBorelLetter
-letter-borel sizes column [] = tt
-letter-borel sizes column (b ∷ bytes) =
-    let P = IsBorelLetter in
-    if-all P (nat_eq b 104) _ _ (torus_letter-borel sizes column bytes) (if-all P (nat_eq b 120) _ _ (root_letter-all P Borel sizes column bytes (λ number k a low high below fine. signed-positive number k low fine))
-    (if-known P (nat_eq b 110 && false) _ _ (λ known. absurd (false≢true (both-right (nat_eq b 110) false known))) tt))
-
--- a word that was read has letters of the Borel subgroup
-pub word-borel : (sizes : Sizes) (fields : List Span) → IfOk (word Borel sizes fields) AreBorel
-unfolding word letters letter
-word-borel sizes fields =
-    bind-all AreBorel (few_letters fields) (λ few. letters Borel sizes fields) (λ few is. each-all IsBorelLetter (letter Borel sizes) (λ field. letter-borel sizes field.column field.bytes) (filter is_letter fields))
+word-over f sizes fields q_is has loaded =
+    bind-all (IsWordOver f) (few_letters fields) (λ few. letters sizes fields) (λ few is. each-all (IsLetterOver f) (letter sizes) (λ field. letter-over f sizes field.column field.bytes q_is has loaded) (filter is_letter fields))

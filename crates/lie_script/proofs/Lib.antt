@@ -5,5 +5,6 @@ pub mod Pieces
 pub mod Steps
 pub mod Elements
 pub mod AcceptedLemmas
+pub mod FormTextLemmas
 pub mod CallerLemmas
 pub mod WorkedExamples

@@ -46,11 +46,6 @@ pub if-all : {B : Type 0} (P : B → Type 0) (t : Bool) (r s : Result B Fault) �
 if-all P true r s h k = h
 if-all P false r s h k = k
 
--- the same, where the first reader is read behind its test
-pub if-known : {B : Type 0} (P : B → Type 0) (t : Bool) (r s : Result B Fault) → (t ≡ true → IfOk r P) → IfOk s P → IfOk (if t then r else s) P
-if-known P true r s h k = h refl
-if-known P false r s h k = k
-
 -- what holds of each value that is read holds of all
 pub each-all : {A B : Type 0} (P : A → Type 0) (reader : B → Result A Fault) → ((item : B) → IfOk (reader item) P) → (items : List B) → IfOk (each reader items) (AllByRecursion P)
 each-all P reader h [] = tt

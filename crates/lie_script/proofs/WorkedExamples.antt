@@ -1,6 +1,6 @@
 -- The definition of reading at work on lines of the language.
 use Rattle.std.specs.Prelude.{◌≡◌, refl, ℕ, true, false, pos, negsuc, List, [], ◌∷◌, ◌++◌, map, codes, Ok, Err, Result}
-use Rattle.lie_letters.specs.declared.letter.Letter.TheVariants.{X, H}
+use Rattle.lie_letters.specs.declared.letter.Letter.TheVariants.{X, H, N, Ninv}
 use Rattle.lie_script.specs.Fields.{fields_of}
 use Rattle.lie_script.specs.Numbers.{number_of, integer, number, numbers, natural}
 use Rattle.lie_script.specs.Letters.{spelled, unit, spelled_list, units, torus_letter, letter, few_letters, root_letter, weyl_letter, letters, word}
@@ -42,6 +42,7 @@ first_lines =
     (codes "roots", Err (Bare fault.Unloaded)) ∷
     (codes "root 1", Err (Bare fault.Order)) ∷
     (codes "row 1", Err (At fault.Command 1)) ∷
+    (codes "collect 1", Err (Bare fault.Order)) ∷
     []
 
 first_lines_read : IsRead wants.Field no_sizes first_lines
@@ -63,6 +64,24 @@ root_lines_read : IsRead wants.Root (record no_sizes { d = 1; l = 1; q = 5 }) ro
 unfolding reads fields_of spoken keyword_of own_line field_of field_line vector root_line coroot_line bare_line word_line weyl_line word letters few_letters letter torus_letter spelled unit spelled_list units number_of integer number numbers natural
 root_lines_read = refl
 
+-- where `load` is awaited, with two coordinates, one simple root, and the field of five
+abbrev last_lines : Table
+last_lines =
+    (codes "load", Ok line.Load) ∷
+    (codes "load 1", Err (At fault.Fields 1)) ∷
+    (codes "collect n1 1 x-1(4)", Ok (line.Collect (N 1 ∷ X (negsuc 0) 4 ∷ []))) ∷
+    (codes "collect 1", Ok (line.Collect [])) ∷
+    (codes "collect", Err (At fault.Fields 0)) ∷
+    (codes "collect n2", Err (At fault.Simple 9)) ∷
+    (codes "collect h(1)", Err (At fault.Torus 9)) ∷
+    (codes "form 1", Err (Bare fault.Unloaded)) ∷
+    (codes "coroot 1 0", Err (Bare fault.Order)) ∷
+    []
+
+last_lines_read : IsRead wants.Load (record { d = 2; l = 1; m = 1; q = 5; dim = 0; loaded = false }) last_lines
+unfolding reads fields_of spoken keyword_of own_line bare_line word_line word letters few_letters letter torus_letter root_letter weyl_letter spelled unit spelled_list units number_of
+last_lines_read = refl
+
 -- commands over the field of five, with two coordinates
 abbrev commands : Table
 commands =
@@ -74,7 +93,9 @@ commands =
     (codes "form h(2)", Err (At fault.Torus 6)) ∷
     (codes "form h(1,1) h(2,)", Err (At fault.Letter 13)) ∷
     (codes "form y1", Err (At fault.Letter 6)) ∷
-    (codes "form n1", Err (At fault.Letter 6)) ∷
+    (codes "form n1 x-1(4) n1'", Ok (line.Form (N 1 ∷ X (negsuc 0) 4 ∷ Ninv 1 ∷ []))) ∷
+    (codes "form n2", Err (At fault.Simple 6)) ∷
+    (codes "form n-1", Err (At fault.Letter 6)) ∷
     (codes "form 01", Err (At fault.Letter 6)) ∷
     (codes "form h(1,0000000000000000001)", Err (At fault.Letter 6)) ∷
     (codes "form", Err (At fault.Fields 0)) ∷
@@ -91,18 +112,20 @@ commands =
     (codes "weyl -0", Err (At fault.Simple 6)) ∷
     (codes "weyl 1000000000000000001", Err (At fault.Range 6)) ∷
     (codes "load", Err (Bare fault.Order)) ∷
+    (codes "collect 1", Err (Bare fault.Order)) ∷
     []
 
 commands_read : IsRead wants.Command (record { d = 2; l = 1; m = 1; q = 5; dim = 0; loaded = true }) commands
-unfolding reads fields_of spoken keyword_of own_line field_of field_line vector root_line coroot_line bare_line word_line weyl_line word letters few_letters letter torus_letter spelled unit spelled_list units number_of integer number numbers natural
+unfolding reads fields_of spoken keyword_of own_line field_of field_line vector root_line coroot_line bare_line word_line weyl_line word letters few_letters letter torus_letter root_letter weyl_letter spelled unit spelled_list units number_of integer number numbers natural
 commands_read = refl
 
 -- words and constants over the field of five, with three positive roots
 abbrev root_commands : Table
 root_commands =
     (codes "form x3(4) h(2,3) x1(0)", Ok (line.Form (X (pos 3) 4 ∷ H (2 ∷ 3 ∷ []) ∷ X (pos 1) 0 ∷ []))) ∷
-    (codes "form x-1(1)", Err (At fault.Letter 6)) ∷
-    (codes "form x-4(9)", Err (At fault.Letter 6)) ∷
+    (codes "form x-1(1)", Ok (line.Form (X (negsuc 0) 1 ∷ []))) ∷
+    (codes "form x-4(9)", Err (At fault.Root 6)) ∷
+    (codes "form x-3(9)", Err (At fault.Value 6)) ∷
     (codes "form x-0(1)", Err (At fault.Root 6)) ∷
     (codes "form x0(1)", Err (At fault.Root 6)) ∷
     (codes "form 1 x4(9)", Err (At fault.Root 8)) ∷

@@ -1,12 +1,11 @@
 -- What holds of every line that passes its checks.
 -- Own.
-use Rattle.std.specs.Prelude.{◌≡◌, ◌≢◌, ℕ, ◌<◌, ◌≤◌, nat_abs, pos, negsuc, ◌<ℤ◌, List, true, length, None, IfOk, IsSome}
-use Rattle.std.specs.List.{All, AllByRecursion}
+use Rattle.std.specs.Prelude.{◌≡◌, ◌≢◌, ℕ, ◌<◌, ◌≤◌, nat_abs, pos, negsuc, List, true, length, None, IfOk, IsSome}
+use Rattle.std.specs.List.{All}
 use Rattle.lie_datum.specs.RootList.{IsLoaded}
 use Rattle.lie_letters.specs.Frames.{FrameData}
 use Rattle.lie_letters.specs.Spelled.{IsWordOver}
 use Rattle.lie_letters.specs.declared.letter.Letter.{Letter}
-use Rattle.lie_letters.specs.declared.letter.Letter.TheVariants.{X, H, N, Ninv}
 use Rattle.lie_script.specs.Numbers.{is_within, allows}
 use Rattle.lie_script.specs.Modules.{is_name}
 use Rattle.lie_script.specs.Names.{Listed, dimension_of}
@@ -19,12 +18,9 @@ use Rattle.lie_script.specs.declared.sizes.Sizes.{Sizes}
 use Rattle.lie_script.specs.declared.sizes.Wants.{Wants}
 use Rattle.lie_script.specs.declared.sizes.Wants.TheVariants as wants
 
--- a letter of the Borel subgroup: a torus element, or a root element of a positive root
-abbrev pub IsBorelLetter : Letter → Type 0
-IsBorelLetter (X r a) = pos 0 <ℤ r
-IsBorelLetter (H t) = Unit {0}
-IsBorelLetter (N i) = ⊥
-IsBorelLetter (Ninv i) = ⊥
+-- a word of each frame with these sizes
+abbrev pub IsWordWithin : Sizes → List Letter → Type 0
+IsWordWithin sizes w = (f : FrameData) → HasField sizes f.field → HasDatum sizes f.datum → IsLoaded f.datum → IsWordOver f w
 
 -- a name that no module has, where one more may be there
 pub record IsNewName (listed : Listed) (name : List ℕ) : Type 0 where
@@ -40,9 +36,9 @@ Fits awaited sizes listed (line.Field p k coeffs g) =
 Fits awaited sizes listed (line.Datum d l) = (awaited ≡ wants.Datum) × (1 ≤ d) × (d ≤ 8) × (l ≤ d)
 Fits awaited sizes listed (line.Root v) = (awaited ≡ wants.Root) × (length v ≡ sizes.d)
 Fits awaited sizes listed (line.Coroot v) = (awaited ≡ wants.Coroot) × (length v ≡ sizes.d)
+Fits awaited sizes listed (line.Collect w) = (awaited ≡ wants.Load) × IsWordWithin sizes w
 Fits awaited sizes listed line.Load = awaited ≡ wants.Load
-Fits awaited sizes listed (line.Form w) =
-    (awaited ≡ wants.Command) × AllByRecursion IsBorelLetter w × ((f : FrameData) → HasField sizes f.field → HasDatum sizes f.datum → IsWordOver f w)
+Fits awaited sizes listed (line.Form w) = (awaited ≡ wants.Command) × IsWordWithin sizes w
 Fits awaited sizes listed line.Roots = awaited ≡ wants.Command
 Fits awaited sizes listed (line.Constant r s) =
     (awaited ≡ wants.Command) × (allows (RootOf sizes.m) r ≡ true) × (allows (RootOf sizes.m) s ≡ true) × (nat_abs r ≢ nat_abs s)
@@ -50,9 +46,7 @@ Fits awaited sizes listed (line.Weyl indices) = (awaited ≡ wants.Command) × A
 Fits awaited sizes listed (line.Adjoint name) = (awaited ≡ wants.Command) × IsNewName listed name
 Fits awaited sizes listed (line.Orbit name v) =
     (awaited ≡ wants.Command) × IsNewName listed name × (length v ≡ sizes.d) × All (λ c. is_within (negsuc 99) (pos 100) c ≡ true) v
-Fits awaited sizes listed (line.Matrix name w) =
-    (awaited ≡ wants.Command) × IsSome (dimension_of listed name)
-    × ((f : FrameData) → HasField sizes f.field → HasDatum sizes f.datum → IsLoaded f.datum → IsWordOver f w)
+Fits awaited sizes listed (line.Matrix name w) = (awaited ≡ wants.Command) × IsSome (dimension_of listed name) × IsWordWithin sizes w
 
 -- every line that passes its checks fits
 abbrev pub AcceptedLinesFit : Type 0

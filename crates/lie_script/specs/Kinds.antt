@@ -5,8 +5,8 @@
 --   datum d l                     d coordinates and l simple roots
 --   root v_1 .. v_d               a simple root
 --   coroot v_1 .. v_d             a simple coroot
+--   collect w, form w             a word of one or more fields
 --   load                          no fields
---   form w                        a word of one or more fields
 --   roots                         no fields
 --   constant r s                  signed numbers of two roots, neither equal nor opposite
 --   weyl i_1 .. i_n               indices of simple roots, at most 4,096; a lone `-` stands for none
@@ -21,7 +21,6 @@ use Rattle.lie_script.specs.declared.allowed.Allowed.TheVariants.{Within, Simple
 use Rattle.lie_script.specs.declared.faults.FaultName.TheVariants as fault
 use Rattle.lie_script.specs.declared.faults.Fault.{Fault}
 use Rattle.lie_script.specs.declared.faults.Fault.TheVariants.{Bare, At}
-use Rattle.lie_script.specs.declared.letter_set.LetterSet.TheVariants.{Borel}
 use Rattle.lie_script.specs.declared.line.Line.{Line}
 use Rattle.lie_script.specs.declared.line.Line.TheVariants as line
 use Rattle.lie_script.specs.declared.sizes.Sizes.{Sizes}
@@ -80,7 +79,7 @@ bare_line said fields = do
 unfoldable pub word_line : Sizes → List Span → Result (List Letter) Fault
 word_line sizes fields = do
   some ← unless (nat_le 1 (length fields)) (At fault.Fields (length fields))
-  word Borel sizes fields
+  word sizes fields
 
 -- `constant r s`: s is neither r nor -r
 abbrev pub constant_line : Sizes → List Span → Result Line Fault

@@ -5,18 +5,16 @@
 --   h( a , .. , a )   a torus element: d elements that aren't 0, by their numbers
 --   n i , n i '       the Weyl representative of a simple root, and its inverse
 --   1                 as a field of a word: no letter
-use Rattle.std.specs.Prelude.{ℕ, ◌+◌, ℤ, Bool, true, false, not, ◌&&◌, ◌||◌, nat_eq, nat_lt, nat_le, if◌then◌else◌, List, [], ◌∷◌, length, take, drop, filter, codes, bytes_eq, Option, Some, None, Result, Ok, Err}
+use Rattle.std.specs.Prelude.{ℕ, ◌+◌, ℤ, Bool, not, ◌&&◌, nat_eq, nat_lt, nat_le, if◌then◌else◌, List, [], ◌∷◌, length, take, drop, filter, codes, bytes_eq, Option, Some, None, Result, Ok, Err}
 use Rattle.std.specs.List.{slice_split}
 use Rattle.lie_letters.specs.declared.letter.Letter.{Letter}
 use Rattle.lie_letters.specs.declared.letter.Letter.TheVariants.{X, H, N, Ninv}
-use Rattle.lie_script.specs.Fields.{Span, begins_with, behind_first, place_of, before_last}
+use Rattle.lie_script.specs.Fields.{Span, behind_first, place_of, before_last}
 use Rattle.lie_script.specs.Checks.{◌>>=◌, unless, found, each}
 use Rattle.lie_script.specs.Numbers.{unsigned, signed, number_of}
 use Rattle.lie_script.specs.declared.faults.FaultName.TheVariants as fault
 use Rattle.lie_script.specs.declared.faults.Fault.{Fault}
 use Rattle.lie_script.specs.declared.faults.Fault.TheVariants.{At}
-use Rattle.lie_script.specs.declared.letter_set.LetterSet.{LetterSet}
-use Rattle.lie_script.specs.declared.letter_set.LetterSet.TheVariants.{Borel, All}
 use Rattle.lie_script.specs.declared.sizes.Sizes.{Sizes}
 
 -- a comma, which parts the elements of a torus letter
@@ -58,37 +56,27 @@ torus_letter sizes column bytes = do
   t ← units sizes.q column numbers
   Ok (H t)
 
--- every letter is taken
-abbrev pub takes_all : LetterSet → Bool
-takes_all Borel = false
-takes_all All = true
-
 -- the number k with the sign of these bytes
 abbrev pub root : ℕ → ℕ → List ℕ → ℕ → Result ℤ Fault
 root m column number k = do
   named ← unless (nat_le 1 k && nat_le k m) (At fault.Root column)
   Ok (signed number k)
 
--- the number k with the sign of these bytes isn't below 0
-abbrev pub not_negative : List ℕ → ℕ → Bool
-not_negative bytes k = not (begins_with 45 bytes) || nat_eq k 0
-
 -- a root element by the bytes of its number and those between the parentheses
-abbrev pub root_element : LetterSet → Sizes → ℕ → List ℕ → List ℕ → Result Letter Fault
-root_element taken sizes column number inner = do
+abbrev pub root_element : Sizes → ℕ → List ℕ → List ℕ → Result Letter Fault
+root_element sizes column number inner = do
   k ← spelled column (unsigned number)
   a ← spelled column inner
-  is_taken ← unless (takes_all taken || not_negative number k) (At fault.Letter column)
   r ← root sizes.m column number k
   a ← element sizes.q column a
   Ok (X r a)
 
 -- `x` was read: a number, and an element in parentheses
-unfoldable pub root_letter : LetterSet → Sizes → ℕ → List ℕ → Result Letter Fault
-root_letter taken sizes column bytes = do
+unfoldable pub root_letter : Sizes → ℕ → List ℕ → Result Letter Fault
+root_letter sizes column bytes = do
   opened ← unless (nat_lt (place_of 40 bytes) (length bytes)) (At fault.Letter column)
   inner ← found (before_last 41 (drop (place_of 40 bytes + 1) bytes)) (At fault.Letter column)
-  root_element taken sizes column (take (place_of 40 bytes) bytes) inner
+  root_element sizes column (take (place_of 40 bytes) bytes) inner
 
 -- the index of a simple root
 abbrev pub simple : ℕ → ℕ → List ℕ → Result ℕ Fault
@@ -111,17 +99,17 @@ unfoldable pub weyl_letter : Sizes → ℕ → List ℕ → Result Letter Fault
 weyl_letter sizes column bytes = weyl_by sizes column bytes (before_last 39 bytes)
 
 -- the kind of a letter is told by its first byte
-abbrev pub letter_from : LetterSet → Sizes → ℕ → List ℕ → Result Letter Fault
-letter_from taken sizes column [] = Err (At fault.Letter column)
-letter_from taken sizes column (b ∷ bytes) =
+abbrev pub letter_from : Sizes → ℕ → List ℕ → Result Letter Fault
+letter_from sizes column [] = Err (At fault.Letter column)
+letter_from sizes column (b ∷ bytes) =
     if nat_eq b 104 then torus_letter sizes column bytes
-    else if nat_eq b 120 then root_letter taken sizes column bytes
-    else if nat_eq b 110 && takes_all taken then weyl_letter sizes column bytes
+    else if nat_eq b 120 then root_letter sizes column bytes
+    else if nat_eq b 110 then weyl_letter sizes column bytes
     else Err (At fault.Letter column)
 
 -- a letter
-unfoldable pub letter : LetterSet → Sizes → Span → Result Letter Fault
-letter taken sizes field = letter_from taken sizes field.column field.bytes
+unfoldable pub letter : Sizes → Span → Result Letter Fault
+letter sizes field = letter_from sizes field.column field.bytes
 
 -- the field `1` is no letter
 abbrev pub is_letter : Span → Bool
@@ -132,11 +120,11 @@ unfoldable pub few_letters : List Span → Result (Unit {0}) Fault
 few_letters fields = unless (nat_le (length (filter is_letter fields)) 4096) (At fault.Letters (length (filter is_letter fields)))
 
 -- letters from left to right
-unfoldable pub letters : LetterSet → Sizes → List Span → Result (List Letter) Fault
-letters taken sizes fields = each (letter taken sizes) (filter is_letter fields)
+unfoldable pub letters : Sizes → List Span → Result (List Letter) Fault
+letters sizes fields = each (letter sizes) (filter is_letter fields)
 
 -- a word, whose letters are counted first
-unfoldable pub word : LetterSet → Sizes → List Span → Result (List Letter) Fault
-word taken sizes fields = do
+unfoldable pub word : Sizes → List Span → Result (List Letter) Fault
+word sizes fields = do
   few ← few_letters fields
-  letters taken sizes fields
+  letters sizes fields

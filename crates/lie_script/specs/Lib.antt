@@ -9,4 +9,5 @@ pub mod Modules
 pub mod Reading
 pub mod Setting
 pub mod Texts
+pub mod FormTexts
 pub mod Accepted

@@ -3,7 +3,7 @@
 --
 --   module name adjoint               the adjoint module
 --   module name orbit v_1 .. v_d      the module of the orbit of a weight
---   matrix name w                     a word on a module, with letters of every kind
+--   matrix name w                     a word on a module
 --   a name                            1 to 16 bytes: a lower-case letter, then lower-case letters, digits and `_`
 use Rattle.std.specs.Prelude.{ℕ, ◌+◌, pos, negsuc, Bool, false, not, ◌&&◌, ◌||◌, nat_eq, nat_lt, nat_le, List, [], ◌∷◌, length, codes, bytes_eq, is_some, Option, Result, Ok}
 use Rattle.std.specs.Char.{is_ascii_digit}
@@ -18,7 +18,6 @@ use Rattle.lie_script.specs.declared.allowed.Allowed.TheVariants.{Within}
 use Rattle.lie_script.specs.declared.faults.FaultName.TheVariants as fault
 use Rattle.lie_script.specs.declared.faults.Fault.{Fault}
 use Rattle.lie_script.specs.declared.faults.Fault.TheVariants.{Bare, At}
-use Rattle.lie_script.specs.declared.letter_set.LetterSet.TheVariants.{All}
 use Rattle.lie_script.specs.declared.line.Line.{Line}
 use Rattle.lie_script.specs.declared.line.Line.TheVariants as line
 use Rattle.lie_script.specs.declared.module_kind.ModuleKind.{ModuleKind}
@@ -72,6 +71,6 @@ module_line sizes listed fields = miscounted (length fields)
 unfoldable pub matrix_line : Sizes → Listed → List Span → Result Line Fault
 matrix_line sizes listed (name ∷ first ∷ fields) = do
   known ← unless (is_some (dimension_of listed name.bytes)) (At fault.Unknown name.column)
-  w ← word All sizes (first ∷ fields)
+  w ← word sizes (first ∷ fields)
   Ok (line.Matrix name.bytes w)
 matrix_line sizes listed fields = miscounted (length fields)

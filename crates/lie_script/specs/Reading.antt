@@ -30,8 +30,8 @@ use Rattle.lie_script.specs.declared.sizes.Wants.TheVariants as wants
 abbrev pub keywords : List (List ℕ × Keyword)
 keywords =
     (codes "field", keyword.Field) ∷ (codes "datum", keyword.Datum) ∷ (codes "root", keyword.Root)
-    ∷ (codes "coroot", keyword.Coroot) ∷ (codes "load", keyword.Load) ∷ (codes "form", keyword.Form)
-    ∷ (codes "roots", keyword.Roots) ∷ (codes "constant", keyword.Constant) ∷ (codes "weyl", keyword.Weyl)
+    ∷ (codes "coroot", keyword.Coroot) ∷ (codes "collect", keyword.Collect) ∷ (codes "load", keyword.Load)
+    ∷ (codes "form", keyword.Form) ∷ (codes "roots", keyword.Roots) ∷ (codes "constant", keyword.Constant) ∷ (codes "weyl", keyword.Weyl)
     ∷ (codes "module", keyword.Module) ∷ (codes "matrix", keyword.Matrix) ∷ []
 
 -- the word that the bytes spell
@@ -44,6 +44,7 @@ is_command keyword.Field = false
 is_command keyword.Datum = false
 is_command keyword.Root = false
 is_command keyword.Coroot = false
+is_command keyword.Collect = false
 is_command keyword.Load = false
 is_command _ = true
 
@@ -53,9 +54,15 @@ begins keyword.Field wants.Field = true
 begins keyword.Datum wants.Datum = true
 begins keyword.Root wants.Root = true
 begins keyword.Coroot wants.Coroot = true
+begins keyword.Collect wants.Load = true
 begins keyword.Load wants.Load = true
 begins word wants.Command = is_command word
 begins _ _ = false
+
+-- the words whose lines are read with the field and the datum
+abbrev pub takes_both : Keyword → Bool
+takes_both keyword.Collect = true
+takes_both word = is_command word
 
 -- the reader of each word
 unfoldable pub own_line : Sizes → Listed → Keyword → List Span → Result Line Fault
@@ -63,6 +70,9 @@ own_line sizes listed keyword.Field fields = field_line fields
 own_line sizes listed keyword.Datum fields = datum_line fields
 own_line sizes listed keyword.Root fields = root_line sizes fields
 own_line sizes listed keyword.Coroot fields = coroot_line sizes fields
+own_line sizes listed keyword.Collect fields = do
+  w ← word_line sizes fields
+  Ok (line.Collect w)
 own_line sizes listed keyword.Load fields = bare_line line.Load fields
 own_line sizes listed keyword.Form fields = do
   w ← word_line sizes fields

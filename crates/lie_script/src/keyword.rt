@@ -11,6 +11,7 @@ pub enum Keyword {
     Datum,
     Root,
     Coroot,
+    Collect,
     Load,
     Form,
     Roots,
@@ -26,8 +27,8 @@ impl Keyword {
         ensures { result ≡ commands self }
     {
         match self {
-            Keyword::Field | Keyword::Datum | Keyword::Root | Keyword::Coroot | Keyword::Load =>
-                false,
+            Keyword::Field | Keyword::Datum | Keyword::Root | Keyword::Coroot => false,
+            Keyword::Collect | Keyword::Load => false,
             _ => true,
         }
     }
@@ -41,7 +42,7 @@ impl Keyword {
             Wants::Datum => self == Keyword::Datum,
             Wants::Root => self == Keyword::Root,
             Wants::Coroot => self == Keyword::Coroot,
-            Wants::Load => self == Keyword::Load,
+            Wants::Load => self == Keyword::Collect || self == Keyword::Load,
             Wants::Command => self.is_command(),
         }
     }
@@ -60,6 +61,8 @@ pub(crate) fn keyword_of(bytes: &[u8]) -> Option<Keyword>
         Some(Keyword::Root)
     } else if bytes == b"coroot".as_slice() {
         Some(Keyword::Coroot)
+    } else if bytes == b"collect".as_slice() {
+        Some(Keyword::Collect)
     } else if bytes == b"load".as_slice() {
         Some(Keyword::Load)
     } else if bytes == b"form".as_slice() {

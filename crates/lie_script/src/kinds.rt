@@ -10,7 +10,6 @@ use crate::allowed::Allowed;
 use crate::faults::{Fault, FaultName, Stop};
 use crate::fields::LineField;
 use crate::kept::Numbers;
-use crate::letter_set::LetterSet;
 use crate::letters::word;
 use crate::line::Line;
 use crate::numbers::{natural, number, numbers};
@@ -151,7 +150,7 @@ pub(crate) fn word_line(
     if fields.is_empty() {
         return Err(Stop::Faulty(miscounted(0)));
     }
-    word(alloc, LetterSet::Borel, sizes, field, datum, fields)
+    word(alloc, sizes, field, datum, fields)
 }
 
 /// The signed number of one of m positive roots or their opposites.

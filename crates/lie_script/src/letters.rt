@@ -4,13 +4,12 @@ ghost use Rattle.std.specs.List.{slice_split};
 ghost use Rattle.lie_field.specs.Quotient.{order};
 ghost use Rattle.lie_letters.specs.Entries.{AreUnits};
 ghost use Rattle.lie_script.specs.Checks.{Gives};
-ghost use Rattle.lie_script.specs.Letters.{is_comma, spelled as spelled_read, element as element_read, unit as unit_read, root as root_read, not_negative as not_negative_read, root_element as root_element_read, root_letter as root_letter_read, takes_all as takes_all_read, simple as simple_read, weyl_letter as weyl_letter_read, spelled_list as spelled_list_read, units as units_read, torus_letter as torus_letter_read, letter as letter_read, is_letter as letter_field, few_letters as few_letters_read, letters as letters_read, word as word_read};
+ghost use Rattle.lie_script.specs.Letters.{is_comma, spelled as spelled_read, element as element_read, unit as unit_read, root as root_read, root_element as root_element_read, root_letter as root_letter_read, simple as simple_read, weyl_letter as weyl_letter_read, spelled_list as spelled_list_read, units as units_read, torus_letter as torus_letter_read, letter as letter_read, is_letter as letter_field, few_letters as few_letters_read, letters as letters_read, word as word_read};
 ghost use Rattle.lie_script.specs.LineFields.{span, spans, bytes_of, pieces_of};
 ghost use Rattle.lie_script.specs.Setting.{HasField, HasDatum};
 
 use crate::faults::{Fault, FaultName, Stop};
 use crate::fields::{LineField, before_last, behind_first, place_of};
-use crate::letter_set::LetterSet;
 use crate::numbers::{number_of, unsigned};
 use crate::sizes::Sizes;
 use lie_datum::{Datum, RootId};
@@ -142,13 +141,6 @@ fn torus_letter(
     Ok(Letter::H(torus_of(field, &entries)))
 }
 
-/// Whether every letter is taken.
-fn takes_all(taken: LetterSet) -> bool
-    ensures { result ≡ takes_all_read taken }
-{
-    taken == LetterSet::All
-}
-
 /// The root of the number k with the sign of these bytes.
 fn root(sizes: &Sizes, datum: &Datum, column: usize, number: &[u8], k: u64) -> Result<RootId, Fault>
     requires { HasDatum sizes.now datum.now }
@@ -165,16 +157,8 @@ fn root(sizes: &Sizes, datum: &Datum, column: usize, number: &[u8], k: u64) -> R
     }
 }
 
-/// Whether the number with the sign of these bytes isn't below 0.
-fn not_negative(bytes: &[u8], k: u64) -> bool
-    ensures { result ≡ not_negative_read bytes.now k }
-{
-    bytes.first() != Some(&b'-') || k == 0
-}
-
 /// A root element by the bytes of its number and those between the parentheses.
 fn root_element(
-    taken: LetterSet,
     sizes: &Sizes,
     field: &Field,
     datum: &Datum,
@@ -184,13 +168,10 @@ fn root_element(
 ) -> Result<Letter, Fault>
     requires field { HasField sizes.now field.now }
     requires datum { HasDatum sizes.now datum.now }
-    ensures { result ≡ root_element_read taken sizes.now column number.now inner.now }
+    ensures { result ≡ root_element_read sizes.now column number.now inner.now }
 {
     let k = spelled(column, unsigned(number))?;
     let a = spelled(column, inner)?;
-    if !takes_all(taken) && !not_negative(number, k) {
-        return Err(misspelled(column));
-    }
     let root = root(sizes, datum, column, number, k)?;
     Ok(Letter::X(root, element(field, column, a)?))
 }
@@ -198,7 +179,6 @@ fn root_element(
 /// `x` was read: a number, and an element in parentheses.
 #[tactic(auto, unfolding(crate::specs::Letters::root_letter))]
 fn root_letter(
-    taken: LetterSet,
     sizes: &Sizes,
     field: &Field,
     datum: &Datum,
@@ -207,14 +187,14 @@ fn root_letter(
 ) -> Result<Letter, Fault>
     requires field { HasField sizes.now field.now }
     requires datum { HasDatum sizes.now datum.now }
-    ensures { result ≡ root_letter_read taken sizes.now column bytes.now }
+    ensures { result ≡ root_letter_read sizes.now column bytes.now }
 {
     let at = place_of(b'(', bytes);
     if at >= bytes.len() {
         return Err(misspelled(column));
     }
     let inner = before_last(b')', &bytes[at + 1..]).ok_or(misspelled(column))?;
-    root_element(taken, sizes, field, datum, column, &bytes[..at], inner)
+    root_element(sizes, field, datum, column, &bytes[..at], inner)
 }
 
 /// The index of a simple root.
@@ -245,7 +225,6 @@ fn weyl_letter(sizes: &Sizes, column: usize, bytes: &[u8]) -> Result<Letter, Fau
 #[tactic(auto, unfolding(crate::specs::Letters::letter))]
 fn letter(
     alloc: Global,
-    taken: LetterSet,
     sizes: &Sizes,
     field: &Field,
     datum: &Datum,
@@ -253,15 +232,15 @@ fn letter(
 ) -> Result<Letter, Stop>
     requires field { HasField sizes.now field.now }
     requires datum { HasDatum sizes.now datum.now }
-    ensures { Gives (λ letter. letter) result (letter_read taken sizes.now (span spelled.now)) }
+    ensures { Gives (λ letter. letter) result (letter_read sizes.now (span spelled.now)) }
 {
     datum.loaded();
     let _l = datum.l();
     let column = spelled.column;
     match spelled.bytes {
         [b'h', rest @ ..] => torus_letter(alloc, sizes, field, datum, column, rest),
-        [b'x', rest @ ..] => Ok(root_letter(taken, sizes, field, datum, column, rest)?),
-        [b'n', rest @ ..] if takes_all(taken) => Ok(weyl_letter(sizes, column, rest)?),
+        [b'x', rest @ ..] => Ok(root_letter(sizes, field, datum, column, rest)?),
+        [b'n', rest @ ..] => Ok(weyl_letter(sizes, column, rest)?),
         _ => Err(Stop::Faulty(misspelled(column))),
     }
 }
@@ -301,7 +280,6 @@ fn few_letters(fields: &[LineField<'_>]) -> Result<(), Fault>
 /// Letters, from left to right.
 fn letters(
     alloc: Global,
-    taken: LetterSet,
     sizes: &Sizes,
     field: &Field,
     datum: &Datum,
@@ -309,12 +287,12 @@ fn letters(
 ) -> Result<Word, Stop>
     requires field { HasField sizes.now field.now }
     requires datum { HasDatum sizes.now datum.now }
-    ensures { Gives (λ word. word) result (letters_read taken sizes.now (spans fields.now)) }
+    ensures { Gives (λ word. word) result (letters_read sizes.now (spans fields.now)) }
 {
     let mut word = Word::new(alloc);
     'letters: for spelled in fields {
         if is_letter(spelled) {
-            word.push(letter(alloc, taken, sizes, field, datum, spelled)?)?;
+            word.push(letter(alloc, sizes, field, datum, spelled)?)?;
         }
     }
     Ok(word)
@@ -324,7 +302,6 @@ fn letters(
 #[tactic(auto, unfolding(crate::specs::Letters::word))]
 pub(crate) fn word(
     alloc: Global,
-    taken: LetterSet,
     sizes: &Sizes,
     field: &Field,
     datum: &Datum,
@@ -332,8 +309,8 @@ pub(crate) fn word(
 ) -> Result<Word, Stop>
     requires field { HasField sizes.now field.now }
     requires datum { HasDatum sizes.now datum.now }
-    ensures { Gives (λ word. word) result (word_read taken sizes.now (spans fields.now)) }
+    ensures { Gives (λ word. word) result (word_read sizes.now (spans fields.now)) }
 {
     few_letters(fields)?;
-    letters(alloc, taken, sizes, field, datum, fields)
+    letters(alloc, sizes, field, datum, fields)
 }

@@ -1,21 +1,22 @@
-//! Lines of a script: what a line says or its first fault, and the texts of numbers and refusals.
+//! Lines of a script: what a line says or its first fault, and the texts of numbers, refusals and forms.
 //!
 //! `read_line` makes a `Line`, and is the only call that looks at the bytes of one. Contracts cite
 //! `specs/Reading.antt` (a line as its word and fields, and the order of the checks),
 //! `specs/Kinds.antt` (the checks of each kind of line), `specs/Letters.antt` (words),
-//! `specs/Setting.antt` (the field and the datum that a line is read with) and `specs/Texts.antt`.
-//! A later word of the language is a case of `Keyword`, of `Line` and of `own_line` there. The crate
-//! stands on `lie_field`, `lie_datum`, `lie_letters` and `itoa`.
+//! `specs/Setting.antt` (the field and the datum that a line is read with), `specs/Texts.antt` and
+//! `specs/FormTexts.antt`. A later word of the language is a case of `Keyword`, of `Line` and of
+//! `own_line` there. The crate stands on `lie_field`, `lie_datum`, `lie_weyl`, `lie_letters`,
+//! `lie_unip` and `itoa`.
 #![tactic(auto)]
 
 mod allowed;
 mod faults;
 mod fields;
+mod form_texts;
 mod kept;
 mod keyword;
 mod kinds;
 mod laws;
-mod letter_set;
 mod letters;
 mod line;
 mod module_kind;
@@ -28,6 +29,7 @@ mod texts;
 
 pub use allowed::Allowed;
 pub use faults::{Fault, FaultName, LineFault};
+pub use form_texts::put_form;
 pub use kept::{Numbers, Text};
 pub use keyword::Keyword;
 pub use laws::accepted_lines_fit;

@@ -21,6 +21,8 @@ pub enum Line {
     },
     Root(Numbers),
     Coroot(Numbers),
+    /// A word, before the group is loaded.
+    Collect(Word),
     Load,
     Form(Word),
     Roots,
@@ -40,7 +42,7 @@ pub enum Line {
         name: Text,
         v: Numbers,
     },
-    /// The name of a module, and a word with letters of every kind.
+    /// The name of a module, and a word.
     Matrix {
         name: Text,
         w: Word,

@@ -11,7 +11,6 @@ use crate::faults::{Fault, FaultName, Stop};
 use crate::fields::LineField;
 use crate::kept::{Numbers, Text};
 use crate::kinds::miscounted;
-use crate::letter_set::LetterSet;
 use crate::letters::word;
 use crate::line::Line;
 use crate::module_kind::ModuleKind;
@@ -192,7 +191,7 @@ pub(crate) fn matrix_line<N: Names>(
     if names.dim_of(name.bytes).is_none() {
         return Err(Stop::Faulty(Fault::At(FaultName::Unknown, name.column)));
     }
-    let w = word(alloc, LetterSet::All, sizes, field, datum, &fields[1..])?;
+    let w = word(alloc, sizes, field, datum, &fields[1..])?;
     Ok(Line::Matrix {
         name: text_of(alloc, name.bytes)?,
         w,

@@ -2,7 +2,7 @@
 ghost use Rattle.std.specs.Prelude.{◌≡◌, ◌≤◌, length, IfOk, IfSome, IsSome, Some, true};
 ghost use Rattle.std.specs.Option.{option_copied};
 ghost use Rattle.lie_script.specs.Checks.{Gives};
-ghost use Rattle.lie_script.specs.Reading.{own_line as own_line_read, spoken as spoken_read, reads, is_command};
+ghost use Rattle.lie_script.specs.Reading.{own_line as own_line_read, spoken as spoken_read, reads, takes_both};
 ghost use Rattle.lie_script.specs.LineFields.{span, spans};
 ghost use Rattle.lie_script.specs.Setting.{HasField, HasDatum, IsSetting, answer_of};
 ghost use Rattle.lie_script.specs.Texts.{line_fault as fault_seen};
@@ -52,7 +52,7 @@ fn own_line<N: Names>(
     requires field { IfSome (option_copied field) (HasField sizes.now) }
     requires datum { IfSome (option_copied datum) (HasDatum sizes.now) }
     requires short { length spelled.now ≤ 65536 }
-    requires both { is_command keyword ≡ true → IsSome (option_copied field) × IsSome (option_copied datum) }
+    requires both { takes_both keyword ≡ true → IsSome (option_copied field) × IsSome (option_copied datum) }
     ensures { Gives (λ line. line) result (own_line_read sizes.now (N.listed names.now) keyword (spans spelled.now)) }
 {
     match keyword {
@@ -60,6 +60,10 @@ fn own_line<N: Names>(
         Keyword::Datum => Ok(datum_line(spelled)?),
         Keyword::Root => root_line(alloc, sizes, spelled),
         Keyword::Coroot => coroot_line(alloc, sizes, spelled),
+        Keyword::Collect => {
+            let (field, datum) = both(field, datum);
+            Ok(Line::Collect(word_line(alloc, sizes, field, datum, spelled)?))
+        }
         Keyword::Load => Ok(bare_line(Line::Load, spelled)?),
         Keyword::Form => {
             let (field, datum) = both(field, datum);

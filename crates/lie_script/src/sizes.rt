@@ -7,6 +7,7 @@ pub enum Wants {
     Datum,
     Root,
     Coroot,
+    /// `load`, or `collect` before it.
     Load,
     Command,
 }

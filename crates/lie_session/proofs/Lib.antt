@@ -1,14 +1,14 @@
 pub mod ToldLemmas
 pub mod LineLemmas
 pub mod InputLemmas
-pub mod StateLemmas
+pub mod StageLemmas
 mod NamedLemmas
-pub mod ConstantLemmas
-pub mod OneLoading
 pub mod ChangeLemmas
-pub mod OneOutputLemmas
 pub mod StatusLemmas
 pub mod LoadedLemmas
+pub mod PrintedLemmas
+pub mod OneOutcome
+pub mod OneOutputLemmas
 pub mod ProgressLemmas
 pub mod CauseLemmas
 pub mod WorkedExamples

@@ -1,10 +1,10 @@
--- What a script has brought where a group is loaded.
-use Rattle.std.proofs.Common.{◌≡◌, ◌≢◌, ℕ, Bool, true, false, cond, List, [], ◌∷◌, ◌++◌, length, Option, Some, None, refl, sym, ap, ◌∙◌, subst, inl, inr, Result, Ok, Err}
-use Rattle.std.specs.Prelude.{◌↔◌, MatchOption, MatchResult, IfOk, ℤ, bytes_eq}
+-- What a script has brought in each state that it leads to.
+use Rattle.std.proofs.Common.{◌≡◌, ℕ, Bool, true, false, cond, List, [], ◌∷◌, ◌++◌, length, Option, Some, None, refl, sym, ap, ◌∙◌, subst, inl, inr, Result, Ok, Err}
+use Rattle.std.specs.Prelude.{⊤, ◌↔◌, MatchOption, IfOk, ℤ, bytes_eq, map, nat_abs}
 use Rattle.std.specs.Bool.{MatchBool}
 use Rattle.std.specs.List.{AllByRecursion}
 use Rattle.std.specs.Map.{lookup}
-use Rattle.std.specs.Option.{IfSome, IsSome, option_map, option_or}
+use Rattle.std.specs.Option.{IfSome, IsSome, IsSomeAnd, option_map, option_or}
 use Rattle.std.proofs.lemmas.Bool.{false≢true}
 use Rattle.std.proofs.lemmas.List.Elements.{All-from_recursion}
 use Rattle.std.proofs.lemmas.Map.Entries.{All-lookup}
@@ -12,98 +12,89 @@ use Rattle.std.proofs.lemmas.Map.Made.{lookup-map_values}
 use Rattle.std.proofs.lemmas.Option.{MatchOption-at_some}
 use Rattle.std.proofs.lemmas.Result.{IfOk-at_ok}
 use Rattle.std.proofs.lemmas.Slice.Eq.{bytes_eq-Decides}
-use Rattle.lie_audit.specs.SignAnswers.{AreTestedSigns}
 use Rattle.lie_audit.specs.WordMatrix.{word_matrix, IsWordFor, frame_with}
-use Rattle.lie_const.specs.Adjoint.{IsAdjointOf}
-use Rattle.lie_const.specs.ConstantTables.{ConstantTable, LoadsConstants}
 use Rattle.lie_const.specs.Modules.{Module, dimension}
-use Rattle.lie_const.specs.Signs.{SignTable}
+use Rattle.lie_const.specs.Signs.{eta_of}
+use Rattle.lie_datum.specs.Load.{Loads as LoadsDatum}
 use Rattle.lie_datum.specs.RootList.{RootDatum, IsLoaded}
+use Rattle.lie_datum.specs.declared.faults.DatumFault.{DatumFault}
 use Rattle.lie_field.specs.FiniteField.{FiniteField}
-use Rattle.lie_field.specs.Faults.{IsWithinLimit}
+use Rattle.lie_field.specs.Faults.{IsWithinLimit, Loads as LoadsField}
+use Rattle.lie_field.specs.Quotient.{FieldData, field_data}
+use Rattle.lie_field.specs.declared.faults.FieldFault.{FieldFault}
+use Rattle.lie_group.specs.Loading.{MakesFrame}
+use Rattle.lie_group.specs.declared.faults.LoadFault.{LoadFault}
+use Rattle.lie_letters.specs.SignedFrames.{SignedFrame}
 use Rattle.lie_letters.specs.declared.letter.Letter.{Letter}
 use Rattle.lie_reply.specs.Modules.{matrix_text}
 use Rattle.lie_script.specs.Accepted.{IsNewName, Fits}
 use Rattle.lie_script.specs.Names.{dimension_of}
 use Rattle.lie_script.specs.Reading.{reads}
-use Rattle.lie_script.specs.Texts.{line_fault}
+use Rattle.lie_script.specs.Texts.{refusal}
 use Rattle.lie_script.specs.declared.faults.Fault.{Fault}
 use Rattle.lie_script.specs.declared.line.Line.{Line}
 use Rattle.lie_script.specs.declared.line.Line.TheVariants as line
-use Rattle.lie_script.specs.declared.sizes.Wants.{Wants}
 use Rattle.lie_script.specs.declared.sizes.Wants.TheVariants as wants
 use Rattle.lie_script.proofs.CallerLemmas.{accepted-fits}
-use Rattle.lie_session.specs.DatumLines.{DatumLines, opened, with_root, with_coroot, is_whole}
-use Rattle.lie_session.specs.Faults.{field_refusal, datum_refusal, constants_refusal, signs_refusal, braid_refusal, orbit_refusal}
+use Rattle.lie_weight.specs.OrbitFaults.{LoadsOrbit}
+use Rattle.lie_weight.specs.declared.faults.ModuleFault.{ModuleFault}
+use Rattle.lie_session.specs.DatumLines.{DatumLines, opened, padded, with_root, with_coroot, is_whole, base_of}
+use Rattle.lie_session.specs.Faults.{Words, words_of}
+use Rattle.lie_session.specs.Held.{Setting, LoadedGroup}
 use Rattle.lie_session.specs.Loaded.{IsBuilt, HasGroup, AnswersProduct, GroupsAreLoaded, MatricesAreProducts}
 use Rattle.lie_session.specs.Named.{Named, module_of, listed_of, HasDistinctNames}
-use Rattle.lie_session.specs.Output.{RepliesTo}
-use Rattle.lie_session.specs.Replies.{next_count, Refuses, Accepts, Answers, AnswersMatrix, KeepsField, KeepsDatum, ReadsDatum, LoadsBraids, LoadsSigns, LoadsGroup, NamesModule, NamesAdjoint, NamesOrbit, WithBoth, WithSigns, Does, Replies, line_refusal}
-use Rattle.lie_session.specs.State.{State, fresh, whole, wants_from, wants_of, dim_of, rank_of, count_of, order_of, sizes_of}
-use Rattle.lie_session.specs.declared.datum.DatumStage.{DatumStage}
-use Rattle.lie_session.specs.declared.datum.DatumStage.TheVariants as datum
+use Rattle.lie_session.specs.Outcomes.{Outcome, quiet, answered, field_outcome, datum_outcome, frame_outcome, module_outcome, with_module, KeepsDatum, CollectsBy, Leads}
+use Rattle.lie_session.specs.Output.{RepliesTo, FieldsAreSized, DataAreLoaded}
+use Rattle.lie_session.specs.Replies.{next_count, over, Refuses, Accepts, Tells, Does, DoesRead, Replies}
+use Rattle.lie_session.specs.State.{State, fresh, field_of, datum_of, group_of, modules_of, is_loaded, wants_of, sizes_of}
 use Rattle.lie_session.specs.declared.mode.Mode.{Mode}
 use Rattle.lie_session.specs.declared.reply.Reply.{Reply}
-use Rattle.lie_session.proofs.ChangeLemmas.{IsSoundState, sound_from, in_datum}
+use Rattle.lie_session.specs.declared.stage.Stage.{Stage}
+use Rattle.lie_session.specs.declared.stage.Stage.TheVariants as stage
 use Rattle.lie_session.proofs.NamedLemmas.{all_more, distinct_none, distinct_more}
-use Rattle.lie_session.proofs.StateLemmas.{free_from}
+use Rattle.lie_session.proofs.StageLemmas.{free_from}
 use Rattle.lie_session.proofs.StatusLemmas.{kept_to}
 
--- a loaded group is a group, and before `load` no module has a name
-pub record HasLoaded (s : State) : Type 0 where
-  pub group : s.loaded ≡ true → HasGroup s
-  pub unnamed : s.loaded ≡ false → s.modules ≡ []
+-- a stage that a script leads to: its field is within the limits, its datum meets the axioms, and a loaded group is one
+abbrev pub IsReached : Stage → Type 0
+IsReached stage.Field = ⊤
+IsReached (stage.Datum F) = IsWithinLimit F.given
+IsReached (stage.Lines F lines) = IsWithinLimit F.given
+IsReached (stage.Load setting) = IsWithinLimit setting.field.given × IsLoaded setting.datum
+IsReached (stage.Loaded g) = HasGroup g
 
--- ---- what is awaited, by what is loaded
+-- an outcome whose stage is reached
+abbrev IsReachedBy : Outcome → Type 0
+IsReachedBy (Ok led) = IsReached led.0
+IsReachedBy (Err why) = ⊤
 
--- a datum that is there is whole
-whole_is : (stage : DatumStage) (D : RootDatum) → whole stage ≡ Some D → stage ≡ datum.Whole D
-whole_is datum.Missing D is = absurd cc
-whole_is (datum.Reading lines) D is = absurd cc
-whole_is (datum.Whole D') D is = let same : D' ≡ D = cc in ap datum.Whole same
+-- ---- what a line leads to
 
--- with a field and a datum, a loaded group awaits commands
-late_wants : (field : Option FiniteField) (stage : DatumStage) (F : FiniteField) (D : RootDatum) → field ≡ Some F → whole stage ≡ Some D → wants_from field stage true ≡ wants.Command
-late_wants field stage F D field_is datum_is = ap (λ o. wants_from o stage true) field_is ∙ ap (λ z. wants_from (Some F) z true) (whole_is stage D datum_is)
+field_reached : (given : FieldData) (x : Result FiniteField FieldFault) → LoadsField given x → IsReachedBy (field_outcome x)
+field_reached given (Ok F) h = h.1
+field_reached given (Err why) h = tt
 
--- a line of a datum is no command
-no_command : (b : Bool) → cond b wants.Root wants.Coroot ≡ wants.Command → ⊥
-no_command true h = absurd cc
-no_command false h = absurd cc
+datum_reached : (F : FiniteField) (lines : DatumLines) (x : Result RootDatum DatumFault) → IsWithinLimit F.given → LoadsDatum (base_of lines) x → IsReachedBy (datum_outcome F lines x)
+datum_reached F lines (Ok D) sized h = (sized, h.1)
+datum_reached F lines (Err why) sized h = tt
 
--- commands are awaited of a loaded group alone
-loaded_by : (field : Option FiniteField) (stage : DatumStage) (loaded : Bool) → wants_from field stage loaded ≡ wants.Command → loaded ≡ true
-loaded_by field stage true h = refl
-loaded_by None stage false h = absurd cc
-loaded_by (Some F) datum.Missing false h = absurd cc
-loaded_by (Some F) (datum.Reading lines) false h = absurd (no_command _ h)
-loaded_by (Some F) (datum.Whole D) false h = absurd cc
+joined_reached : (F : FiniteField) (lines : DatumLines) (whole : Bool) (r : Outcome) → IsWithinLimit F.given → MatchBool whole (KeepsDatum F lines r) (r ≡ quiet (stage.Lines F lines)) → IsReachedBy r
+joined_reached F lines true r sized h = subst IsReachedBy (sym h.2) (datum_reached F lines h.0 sized h.1)
+joined_reached F lines false r sized h = subst IsReachedBy (sym h) sized
 
--- where commands are awaited a group is loaded
-late_from : (s : State) → wants_of s ≡ wants.Command → s.loaded ≡ true
-late_from s h = loaded_by s.field s.datum s.loaded h
+collected_reached : (setting : Setting) (w : List Letter) (x : Result SignedFrame LoadFault) (r : Outcome) → IsReached (stage.Load setting) → CollectsBy setting w x r → IsReachedBy r
+collected_reached setting w (Ok g) r there h = subst IsReachedBy (sym h.2) there
+collected_reached setting w (Err why) r there h = subst IsReachedBy (sym h) tt
 
--- where another line is awaited none is
-early_from : (s : State) (w : Wants) → HasLoaded s → wants_of s ≡ w → w ≢ wants.Command → s.loaded ≡ false
-early_from s w before is other = by_loaded s.loaded refl where
-  by_loaded : (loaded : Bool) → s.loaded ≡ loaded → loaded ≡ false
-  by_loaded false l = refl
-  by_loaded true l =
-      let g = before.group l in
-      absurd (other (sym is ∙ ap (wants_from s.field s.datum) l ∙ late_wants s.field s.datum g.field g.datum g.field_is g.datum_is))
-
--- ---- what a reply leaves
-
--- a value that is there
-held : {A : Type 0} (Q : A → Type 0) (o : Option A) → MatchOption o ⊥ Q → (a : A) × (o ≡ Some a) × Q a
-held Q None h = absurd h
-held Q (Some a) h = (a, refl, h)
-
--- what a command does with the field and the datum of the group
-with_group : (s : State) (P : FiniteField → RootDatum → Type 0) (g : HasGroup s) → WithBoth s P → P g.field g.datum
-with_group s P g h =
-    MatchOption-at_some ⊥ (λ D. P g.field D) g.datum g.datum_is
-    (MatchOption-at_some ⊥ (λ F. MatchOption (whole s.datum) ⊥ (λ D. P F D)) g.field g.field_is h)
+frame_reached : (setting : Setting) (x : Result SignedFrame LoadFault) → IsWithinLimit setting.field.given → MakesFrame setting.field setting.datum x → IsReachedBy (frame_outcome x)
+frame_reached setting (Ok g) sized h = record {
+  sized = subst (λ (F : FiniteField). IsWithinLimit F.given) (sym h.field) sized;
+  frame = record { field = refl; datum = refl; lawful = h.lawful; count = h.count };
+  built = tt;
+  found = tt;
+  distinct = distinct_none;
+}
+frame_reached setting (Err why) sized h = tt
 
 -- what has P has Q
 all_kept : {A : Type 0} (P Q : A → Type 0) → ((x : A) → P x → Q x) → (xs : List A) → AllByRecursion P xs → AllByRecursion Q xs
@@ -142,194 +133,106 @@ found_more modules name v free h =
           (free_from modules name free)
           ∙ ap (λ b. cond b (Some v) None) ((bytes_eq-Decides name name).1 refl)
 
--- the same group, with these modules
-group_with : (s t : State) (g : HasGroup s) → t.field ≡ s.field → whole t.datum ≡ whole s.datum → t.signs ≡ s.signs
-    → AllByRecursion (λ e. IsBuilt g.datum g.signs e.1) t.modules → AreFound t.modules → HasDistinctNames t.modules → HasGroup t
-group_with s t g field_is datum_is signs_are built found distinct = record {
-  field = g.field;
-  datum = g.datum;
-  signs = g.signs;
-  adjoint = g.adjoint;
-  field_is = field_is ∙ g.field_is;
-  datum_is = datum_is ∙ g.datum_is;
-  signs_are = signs_are ∙ g.signs_are;
-  sized = g.sized;
-  axioms = g.axioms;
-  constants = g.constants;
-  is_adjoint = g.is_adjoint;
-  tested = g.tested;
-  braids = g.braids;
-  built = built;
-  found = found;
-  distinct = distinct;
+-- a built module gets a new name
+named_reached : (g : LoadedGroup) (name : List ℕ) (v : Module) → HasGroup g → IsNewName (listed_of g.modules) name → IsBuilt g.frame v → HasGroup (with_module g name v)
+named_reached g name v there new built = record {
+  sized = there.sized;
+  frame = there.frame;
+  built = all_more (λ e. IsBuilt g.frame e.1) g.modules (name, v) there.built built;
+  found = found_more g.modules name v new.free there.found;
+  distinct = distinct_more g.modules name v (free_from g.modules name new.free) there.distinct;
 }
 
--- a refusal after `load`, and one before it
-counts : (s : State) → HasLoaded s → HasLoaded (record s { refusals = next_count s.refusals })
-counts s before = record {
-  group = λ is. group_with s (record s { refusals = next_count s.refusals }) (before.group is) refl refl refl (before.group is).built (before.group is).found (before.group is).distinct;
-  unnamed = before.unnamed;
-}
+orbit_reached : (g : LoadedGroup) (name : List ℕ) (w : List ℤ) (x : Result Module ModuleFault) → HasGroup g → IsNewName (listed_of g.modules) name → length w ≡ g.frame.datum.base.dim
+    → LoadsOrbit g.frame.datum (eta_of g.frame.signs) (padded w) x → IsReachedBy (module_outcome g name x)
+orbit_reached g name w (Ok v) there new long h = named_reached g name v there new (inr (w, long, h))
+orbit_reached g name w (Err why) there new long h = tt
 
-ends : (s : State) → HasLoaded s → HasLoaded (record s { ended = true })
-ends s before = record {
-  group = λ is. group_with s (record s { ended = true }) (before.group is) refl refl refl (before.group is).built (before.group is).found (before.group is).distinct;
-  unnamed = before.unnamed;
-}
+matrix_reached : (g : LoadedGroup) (text : Module → List ℕ) (o : Option Module) (r : Outcome) → HasGroup g
+    → MatchOption o (r ≡ quiet (stage.Loaded g)) (λ v. r ≡ answered (stage.Loaded g) (text v)) → IsReachedBy r
+matrix_reached g text None r there h = subst IsReachedBy (sym h) there
+matrix_reached g text (Some v) r there h = subst IsReachedBy (sym h) there
 
-refused : (loaded : Bool) (s next : State) → HasLoaded s → next ≡ cond loaded (record s { refusals = next_count s.refusals }) (record s { ended = true }) → HasLoaded next
-refused true s next before is = subst HasLoaded (sym is) (counts s before)
-refused false s next before is = subst HasLoaded (sym is) (ends s before)
+leads_reached : (at : Stage) (said : Line) (r : Outcome) → IsReached at → Fits (wants_of at) (sizes_of at) (listed_of (modules_of at)) said → Leads at said r → IsReachedBy r
+leads_reached stage.Field (line.Field p k coeffs g) r there fits h = subst IsReachedBy (sym h.2) (field_reached (field_data p (map nat_abs coeffs) g) h.0 h.1)
+leads_reached (stage.Datum F) (line.Datum d l) r there fits h = joined_reached F (opened d l) (is_whole (opened d l)) r there h
+leads_reached (stage.Lines F lines) (line.Root v) r there fits h = joined_reached F (with_root lines v) (is_whole (with_root lines v)) r there h
+leads_reached (stage.Lines F lines) (line.Coroot v) r there fits h = joined_reached F (with_coroot lines v) (is_whole (with_coroot lines v)) r there h
+leads_reached (stage.Load setting) (line.Collect w) r there fits h = collected_reached setting w h.0 r there h.2
+leads_reached (stage.Load setting) line.Load r there fits h = subst IsReachedBy (sym h.2) (frame_reached setting h.0 there.0 h.1)
+leads_reached (stage.Loaded g) (line.Form w) r there fits h = subst IsReachedBy (sym h.2) there
+leads_reached (stage.Loaded g) line.Roots r there fits h = subst IsReachedBy (sym h) there
+leads_reached (stage.Loaded g) (line.Constant p q) r there fits h = subst IsReachedBy (sym h.2) there
+leads_reached (stage.Loaded g) (line.Weyl indices) r there fits h = subst IsReachedBy (sym h.2) there
+leads_reached (stage.Loaded g) (line.Adjoint name) r there fits h = subst IsReachedBy (sym h.2) (named_reached g name h.0 there fits.1 (inl h.1))
+leads_reached (stage.Loaded g) (line.Orbit name w) r there fits h = subst IsReachedBy (sym h.2) (orbit_reached g name w h.0 there fits.1 fits.2 h.1)
+leads_reached (stage.Loaded g) (line.Matrix name w) r there fits h = matrix_reached g (λ v. matrix_text (word_matrix g.frame.field v w)) (module_of g.modules name) r there h
+leads_reached at _ r there fits h = subst IsReachedBy (sym h) there
 
-module _ (s : State) (n : ℕ) (reply : Reply) (next : State) (before : HasLoaded s) where
-  -- a refused line
-  refuses : (text : List ℕ) → Refuses s text reply next → HasLoaded next
-  refuses text h = refused s.loaded s next before h.1
+-- ---- what a reply leaves
 
-  -- an answer that changes nothing
-  stays : next ≡ s → HasLoaded next
-  stays is = subst HasLoaded (sym is) before
+accepted_is : (after : State) (text : Option (List ℕ)) (reply : Reply) (next : State) → Accepts after text reply next → next ≡ after
+accepted_is after None reply next h = h.1
+accepted_is after (Some text) reply next h = h.1
 
-  -- before `load`, as long as none is loaded and no module gets a name
-  early : (t : State) → s.loaded ≡ false → t.loaded ≡ s.loaded → t.modules ≡ s.modules → next ≡ t → HasLoaded next
-  early t unloaded loaded_is modules_are is =
-      subst HasLoaded (sym is) (record {
-        group = λ l. absurd (false≢true (sym (loaded_is ∙ unloaded) ∙ l));
-        unnamed = λ _. modules_are ∙ before.unnamed unloaded;
-      })
+refused_reached : (loaded : Bool) (s next : State) → IsReached s.stage → next ≡ cond loaded (record s { refusals = next_count s.refusals }) (over s) → IsReached next.stage
+refused_reached true s next there is = subst (λ (t : State). IsReached t.stage) (sym is) there
+refused_reached false s next there is = subst (λ (t : State). IsReached t.stage) (sym is) tt
 
-  -- the lines of a field and of a datum
-  field_leaves : (p : ℕ) (coeffs : List ℤ) (g : ℕ) → s.loaded ≡ false → KeepsField s n p coeffs g reply next → HasLoaded next
-  field_leaves p coeffs g unloaded (inl h) = early (record s { field = Some h.0 }) unloaded refl refl h.3.1
-  field_leaves p coeffs g unloaded (inr h) = refuses (field_refusal n h.0) h.3
+worded_reached : (s : State) (n : ℕ) (words : Option Words) (reply : Reply) (next : State) → IsReached s.stage → IsSomeAnd words (λ w. Refuses s (refusal n w.0 w.1) reply next) → IsReached next.stage
+worded_reached s n None reply next there h = absurd h
+worded_reached s n (Some w) reply next there h = refused_reached (is_loaded s.stage) s next there h.1
 
-  datum_leaves : (lines : DatumLines) → s.loaded ≡ false → KeepsDatum s n lines reply next → HasLoaded next
-  datum_leaves lines unloaded (inl h) = early (record s { datum = datum.Whole h.0 }) unloaded refl refl h.2.1
-  datum_leaves lines unloaded (inr h) = refuses (datum_refusal n lines.rank h.0) h.3
+tells_reached : (s : State) (n : ℕ) (r : Outcome) (reply : Reply) (next : State) → IsReached s.stage → IsReachedBy r → Tells s n r reply next → IsReached next.stage
+tells_reached s n (Ok led) reply next there led_there h =
+    subst (λ (t : State). IsReached t.stage) (sym (accepted_is (record s { stage = led.0 }) led.1 reply next h)) led_there
+tells_reached s n (Err why) reply next there led_there h = worded_reached s n (words_of why) reply next there h
 
-  joined_leaves : (last : Bool) (lines : DatumLines) → s.loaded ≡ false
-      → MatchBool last (KeepsDatum s n lines reply next) (Accepts (record s { datum = datum.Reading lines }) reply next) → HasLoaded next
-  joined_leaves true lines unloaded h = datum_leaves lines unloaded h
-  joined_leaves false lines unloaded h = early (record s { datum = datum.Reading lines }) unloaded refl refl h.1
+replied_reached : (s : State) (n : ℕ) (read : Result Line Fault) (reply : Reply) (next : State) → IsReached s.stage → IfOk read (Fits (wants_of s.stage) (sizes_of s.stage) (listed_of (modules_of s.stage)))
+    → DoesRead s n reply next read → IsReached next.stage
+replied_reached s n (Ok said) reply next there fits h = tells_reached s n h.0 reply next there (leads_reached s.stage said h.0 there fits h.1) h.2
+replied_reached s n (Err why) reply next there fits h = refused_reached (is_loaded s.stage) s next there h.1
 
-  -- `load` brings a group
-  module _ (F : FiniteField) (D : RootDatum) (unloaded : s.loaded ≡ false) (field_is : s.field ≡ Some F) (datum_is : whole s.datum ≡ Some D) (sized : IsWithinLimit F.given) (axioms : IsLoaded D) where
-    braids_bring : (c : (c : ConstantTable) × LoadsConstants D (Ok c)) (v : Module) (t : SignTable) → IsAdjointOf D v → AreTestedSigns D v t → LoadsBraids s n F D t reply next → HasLoaded next
-    braids_bring c v t adjoint tested (inl h) =
-        subst HasLoaded (sym h.1.1) (record {
-          group = λ _. record {
-            field = F;
-            datum = D;
-            signs = t;
-            adjoint = v;
-            field_is = field_is;
-            datum_is = datum_is;
-            signs_are = refl;
-            sized = sized;
-            axioms = axioms;
-            constants = c;
-            is_adjoint = adjoint;
-            tested = tested;
-            braids = h.0;
-            built = subst (AllByRecursion (λ e. IsBuilt D t e.1)) (sym (before.unnamed unloaded)) tt;
-            found = subst AreFound (sym (before.unnamed unloaded)) tt;
-            distinct = subst HasDistinctNames (sym (before.unnamed unloaded)) distinct_none;
-          };
-          unnamed = λ is. absurd (false≢true (sym is));
-        })
-    braids_bring c v t adjoint tested (inr h) = refuses (braid_refusal n h.0 h.1 h.2) h.4
+pub reached_from : (s : State) (n : ℕ) (bytes : List ℕ) (reply : Reply) (next : State) → IsReached s.stage → Replies s n bytes reply next → IsReached next.stage
+reached_from s n bytes reply next there r =
+    replied_reached s n (reads (wants_of s.stage) (sizes_of s.stage) (listed_of (modules_of s.stage)) bytes) reply next there
+    (accepted-fits (wants_of s.stage) (sizes_of s.stage) (listed_of (modules_of s.stage)) bytes) r.told
 
-    signs_bring : (c : ConstantTable) × LoadsConstants D (Ok c) → LoadsSigns s n F D reply next → HasLoaded next
-    signs_bring c (inl h) = braids_bring c h.0 h.1 h.2 h.3 h.5
-    signs_bring c (inr h) = refuses (signs_refusal n h.1) h.5
+-- ---- in each state that a script leads to
 
-    group_brings : LoadsGroup s n F D reply next → HasLoaded next
-    group_brings (inl h) = signs_bring (h.0, h.1) h.2
-    group_brings (inr h) = refuses (constants_refusal n h.0) h.3
+pub reached_to : (mode : Mode) (lines : List (List ℕ)) (replies : List Reply) (s : State) → RepliesTo mode fresh 0 lines replies s → IsReached s.stage
+reached_to mode lines replies s h = kept_to (λ (t : State). IsReached t.stage) reached_from mode fresh 0 lines replies s tt h
 
-  load_brings : IsSoundState s → s.loaded ≡ false → WithBoth s (λ F D. LoadsGroup s n F D reply next) → HasLoaded next
-  load_brings sound unloaded h =
-      let with_field = held (λ F. MatchOption (whole s.datum) ⊥ (λ D. LoadsGroup s n F D reply next)) s.field h in
-      let with_datum = held (λ D. LoadsGroup s n with_field.0 D reply next) (whole s.datum) with_field.2 in
-      group_brings with_field.0 with_datum.0 unloaded with_field.1 with_datum.1
-      (subst (λ o. IfSome o (λ F. IsWithinLimit F.given)) with_field.1 sound.sized) (subst (λ o. IfSome o IsLoaded) with_datum.1 sound.loaded) with_datum.2
+sized_at : (at : Stage) → IsReached at → IfSome (field_of at) (λ F. IsWithinLimit F.given)
+sized_at stage.Field there = tt
+sized_at (stage.Datum F) there = there
+sized_at (stage.Lines F lines) there = there
+sized_at (stage.Load setting) there = there.0
+sized_at (stage.Loaded g) there = there.sized
 
-  -- a module that is built gets a name
-  named_leaves : (name : List ℕ) (v : Module) (g : HasGroup s) → s.loaded ≡ true → IsNewName (listed_of s.modules) name → IsBuilt g.datum g.signs v
-      → NamesModule s name v reply next → HasLoaded next
-  named_leaves name v g late new built h =
-      subst HasLoaded (sym h.1) (record {
-        group = λ _.
-            group_with s (record s { modules = s.modules ++ (name, v) ∷ [] }) g refl refl refl
-            (all_more (λ e. IsBuilt g.datum g.signs e.1) s.modules (name, v) g.built built) (found_more s.modules name v new.free g.found)
-            (distinct_more s.modules name v (free_from s.modules name new.free) g.distinct);
-        unnamed = λ is. absurd (false≢true (sym is ∙ late));
-      })
+pub axioms_at : (at : Stage) → IsReached at → IfSome (datum_of at) IsLoaded
+axioms_at stage.Field there = tt
+axioms_at (stage.Datum F) there = tt
+axioms_at (stage.Lines F lines) there = tt
+axioms_at (stage.Load setting) there = there.1
+axioms_at (stage.Loaded g) there = there.frame.lawful.lawful.loaded
 
-  adjoint_leaves : (name : List ℕ) (g : HasGroup s) → s.loaded ≡ true → IsNewName (listed_of s.modules) name → NamesAdjoint s g.datum name reply next → HasLoaded next
-  adjoint_leaves name g late new h = named_leaves name h.0 g late new (inl h.1) h.2
+group_at : (at : Stage) → IsReached at → IfSome (group_of at) HasGroup
+group_at (stage.Loaded g) there = there
+group_at _ there = tt
 
-  orbit_leaves : (name : List ℕ) (w : List ℤ) (g : HasGroup s) → s.loaded ≡ true → IsNewName (listed_of s.modules) name → length w ≡ g.datum.base.dim
-      → NamesOrbit s n g.datum g.signs name w reply next → HasLoaded next
-  orbit_leaves name w g late new long (inl h) = named_leaves name h.0 g late new (inr (w, long, h.1)) h.2
-  orbit_leaves name w g late new long (inr h) = refuses (orbit_refusal n h.0) h.3
+-- each field is within the limits
+pub fields_are_sized : FieldsAreSized
+fields_are_sized mode lines replies s F h is =
+    subst (λ (o : Option FiniteField). IfSome o (λ (F : FiniteField). IsWithinLimit F.given)) is (sized_at s.stage (reached_to mode lines replies s h))
 
-  -- whatever a line says
-  does_leave : (said : Line) → IsSoundState s → Fits (wants_of s) (sizes_of s) (listed_of s.modules) said → Does s n said reply next → HasLoaded next
-  does_leave line.Silent sound fits h = stays h.1
-  does_leave (line.Field p k coeffs g) sound fits h = field_leaves p coeffs g (early_from s wants.Field before fits.0 (λ e. absurd cc)) h
-  does_leave (line.Datum d l) sound fits h = joined_leaves (is_whole (opened d l)) (opened d l) (early_from s wants.Datum before fits.0 (λ e. absurd cc)) h
-  does_leave (line.Root v) sound fits h =
-      in_datum (λ lines. ReadsDatum s n (with_root lines v) reply next) s.datum
-      (λ lines r. joined_leaves (is_whole (with_root lines v)) (with_root lines v) (early_from s wants.Root before fits.0 (λ e. absurd cc)) r) h
-  does_leave (line.Coroot v) sound fits h =
-      in_datum (λ lines. ReadsDatum s n (with_coroot lines v) reply next) s.datum
-      (λ lines r. joined_leaves (is_whole (with_coroot lines v)) (with_coroot lines v) (early_from s wants.Coroot before fits.0 (λ e. absurd cc)) r) h
-  does_leave line.Load sound fits h = load_brings sound (early_from s wants.Load before fits (λ e. absurd cc)) h
-  does_leave (line.Form w) sound fits h = stays (with_group s _ (before.group (late_from s fits.0)) h).2.1
-  does_leave line.Roots sound fits h = stays (with_group s _ (before.group (late_from s fits)) h).1
-  does_leave (line.Constant p q) sound fits h = stays (with_group s _ (before.group (late_from s fits.0)) h).2.1
-  does_leave (line.Weyl indices) sound fits h = stays (with_group s _ (before.group (late_from s fits.0)) h).2.1
-  does_leave (line.Adjoint name) sound fits h =
-      let late = late_from s fits.0 in
-      let g = before.group late in
-      adjoint_leaves name g late fits.1 (with_group s (λ F D. NamesAdjoint s D name reply next) g h)
-  does_leave (line.Orbit name w) sound fits h =
-      let late = late_from s fits.0 in
-      let g = before.group late in
-      orbit_leaves name w g late fits.1 (fits.2 ∙ ap dim_of (whole_is s.datum g.datum g.datum_is))
-      (MatchOption-at_some ⊥ (λ t. NamesOrbit s n g.datum t name w reply next) g.signs g.signs_are
-      (with_group s (λ F D. WithSigns s (λ t. NamesOrbit s n D t name w reply next)) g h))
-  does_leave (line.Matrix name w) sound fits h =
-      let g = before.group (late_from s fits.0) in
-      stays (held (λ v. Answers s (matrix_text (word_matrix g.field v w)) reply next) (module_of s.modules name) (with_group s (λ F D. AnswersMatrix s F name w reply next) g h)).2.1
+-- each datum meets the axioms
+pub data_are_loaded : DataAreLoaded
+data_are_loaded mode lines replies s D h is = subst (λ (o : Option RootDatum). IfSome o IsLoaded) is (axioms_at s.stage (reached_to mode lines replies s h))
 
-  -- and whether it says something or is refused
-  replied_leaves : (read : Result Line Fault) → IsSoundState s → IfOk read (Fits (wants_of s) (sizes_of s) (listed_of s.modules))
-      → MatchResult read (λ said. Does s n said reply next) (λ why. Refuses s (line_refusal n (line_fault why)) reply next) → HasLoaded next
-  replied_leaves (Ok said) sound fits h = does_leave said sound fits h
-  replied_leaves (Err why) sound fits h = refuses (line_refusal n (line_fault why)) h
-
--- what holds in each state that a script leads to
-abbrev IsReached : State → Type 0
-IsReached s = IsSoundState s × HasLoaded s
-
-reached_from : (s : State) (n : ℕ) (bytes : List ℕ) (reply : Reply) (next : State) → IsReached s → Replies s n bytes reply next → IsReached next
-reached_from s n bytes reply next h r = (
-  sound_from s n bytes reply next h.0 r,
-  replied_leaves s n reply next h.1 (reads (wants_of s) (sizes_of s) (listed_of s.modules) bytes) h.0 (accepted-fits (wants_of s) (sizes_of s) (listed_of s.modules) bytes) r,
-)
-
-reached_to : (mode : Mode) (lines : List (List ℕ)) (replies : List Reply) (s : State) → RepliesTo mode fresh 0 lines replies s → IsReached s
-reached_to mode lines replies s h =
-    kept_to IsReached reached_from mode fresh 0 lines replies s
-    (record { sized = tt; loaded = tt }, record { group = λ is. absurd (false≢true is); unnamed = λ _. refl }) h
-
--- in each state that a script leads to a loaded group is a group, and before it no module has a name
+-- a loaded group is one
 pub groups_are_loaded : GroupsAreLoaded
-groups_are_loaded mode lines replies s h =
-    let loaded = (reached_to mode lines replies s h).1 in
-    (loaded.group, loaded.unnamed)
+groups_are_loaded mode lines replies s h = group_at s.stage (reached_to mode lines replies s h)
 
 -- ---- the replies to `matrix`
 
@@ -344,48 +247,76 @@ named_module modules name h =
     some_mapped dimension (module_of modules name) (subst IsSome (lookup-map_values dimension (λ other. bytes_eq other name) modules) h)
 
 -- a fact of a value that is there
-at_some : {A : Type 0} (Q : A → Type 0) (o : Option A) (a : A) → o ≡ Some a → Q a → MatchOption o ⊥ Q
-at_some Q o a is h = subst (λ z. MatchOption z ⊥ Q) (sym is) h
+at_some : {A : Type 0} (P : Type 0) (Q : A → Type 0) (o : Option A) (a : A) → o ≡ Some a → Q a → MatchOption o P Q
+at_some P Q o a is h = subst (λ z. MatchOption z P Q) (sym is) h
 
-module _ (s : State) (n : ℕ) (bytes name : List ℕ) (w : List Letter) (g : HasGroup s) where
-  -- the word is one of the group
-  word_of_group : Fits (wants_of s) (sizes_of s) (listed_of s.modules) (line.Matrix name w) → IsWordFor g.field g.datum w
-  word_of_group fits = λ c.
-      fits.2 (frame_with g.field g.datum c) (ap order_of (sym g.field_is))
-      (record { d_is = sym (ap dim_of stage_is); l_is = sym (ap rank_of stage_is); m_is = sym (ap count_of stage_is) }) g.axioms where
-        stage_is : s.datum ≡ datum.Whole g.datum
-        stage_is = whole_is s.datum g.datum g.datum_is
+-- the state of a loaded group
+abbrev loaded_state : LoadedGroup → ℕ → Bool → State
+loaded_state g k ended = record { stage = stage.Loaded g; refusals = k; ended = ended }
 
+module _ (g : LoadedGroup) (there : HasGroup g) (k : ℕ) (ended : Bool) (n : ℕ) (bytes name : List ℕ) (w : List Letter) where
   -- a module that has a name is built
-  built_of_name : (v : Module) → module_of s.modules name ≡ Some v → IsBuilt g.datum g.signs v
+  built_of_name : (v : Module) → module_of g.modules name ≡ Some v → IsBuilt g.frame v
   built_of_name v is =
-      subst (λ o. IfSome o (IsBuilt g.datum g.signs)) is
-      (All-lookup (IsBuilt g.datum g.signs) (λ other. bytes_eq other name) s.modules (All-from_recursion (λ e. IsBuilt g.datum g.signs e.1) s.modules g.built))
+      subst (λ o. IfSome o (IsBuilt g.frame)) is
+      (All-lookup (IsBuilt g.frame) (λ other. bytes_eq other name) g.modules (All-from_recursion (λ e. IsBuilt g.frame e.1) g.modules there.built))
 
   -- the replies to the line are those of its module
-  matrix_does : (v : Module) → module_of s.modules name ≡ Some v → reads (wants_of s) (sizes_of s) (listed_of s.modules) bytes ≡ Ok (line.Matrix name w)
-      → (reply : Reply) (next : State) → Replies s n bytes reply next ↔ Answers s (matrix_text (word_matrix g.field v w)) reply next
-  matrix_does v is said reply next = (
-    λ r. MatchOption-at_some ⊥ (answered g.field) v is (with_group s (λ F D. AnswersMatrix s F name w reply next) g (subst read_so said r)),
-    λ a. subst read_so (sym said)
-        (at_some (λ F. MatchOption (whole s.datum) ⊥ (λ D. AnswersMatrix s F name w reply next)) s.field g.field g.field_is
-        (at_some (λ D. AnswersMatrix s g.field name w reply next) (whole s.datum) g.datum g.datum_is (at_some (answered g.field) (module_of s.modules name) v is a))),
-  ) where
-    answered : FiniteField → Module → Type 0
-    answered F v = Answers s (matrix_text (word_matrix F v w)) reply next
+  matrix_does : (v : Module) → module_of g.modules name ≡ Some v → reads (wants_of (stage.Loaded g)) (sizes_of (stage.Loaded g)) (listed_of g.modules) bytes ≡ Ok (line.Matrix name w)
+      → (reply : Reply) (next : State) → Replies (loaded_state g k ended) n bytes reply next
+      ↔ Accepts (loaded_state g k ended) (Some (matrix_text (word_matrix g.frame.field v w))) reply next
+  matrix_does v is said reply next = (forward, backward) where
+    forward : Replies (loaded_state g k ended) n bytes reply next → Accepts (loaded_state g k ended) (Some (matrix_text (word_matrix g.frame.field v w))) reply next
+    forward r =
+        let d : Does (loaded_state g k ended) n (line.Matrix name w) reply next = subst (DoesRead (loaded_state g k ended) n reply next) said r.told in
+        let led : d.0 ≡ answered (stage.Loaded g) (matrix_text (word_matrix g.frame.field v w)) = MatchOption-at_some (d.0 ≡ quiet (stage.Loaded g)) (λ u. d.0 ≡ answered (stage.Loaded g) (matrix_text (word_matrix g.frame.field u w))) v is d.1 in
+        subst (λ x. Tells (loaded_state g k ended) n x reply next) led d.2
 
-    read_so : Result Line Fault → Type 0
-    read_so read = MatchResult read (λ said. Does s n said reply next) (λ why. Refuses s (line_refusal n (line_fault why)) reply next)
+    backward : Accepts (loaded_state g k ended) (Some (matrix_text (word_matrix g.frame.field v w))) reply next → Replies (loaded_state g k ended) n bytes reply next
+    backward a =
+        let out = answered (stage.Loaded g) (matrix_text (word_matrix g.frame.field v w)) in
+        record {
+          told = subst (DoesRead (loaded_state g k ended) n reply next) (sym said)
+            (out, at_some (out ≡ quiet (stage.Loaded g)) (λ u. out ≡ answered (stage.Loaded g) (matrix_text (word_matrix g.frame.field u w))) (module_of g.modules name) v is refl, a);
+        }
 
-  product_from : Fits (wants_of s) (sizes_of s) (listed_of s.modules) (line.Matrix name w) → reads (wants_of s) (sizes_of s) (listed_of s.modules) bytes ≡ Ok (line.Matrix name w)
-      → AnswersProduct s n bytes name w
+  product_from : Fits (wants_of (stage.Loaded g)) (sizes_of (stage.Loaded g)) (listed_of g.modules) (line.Matrix name w)
+      → reads (wants_of (stage.Loaded g)) (sizes_of (stage.Loaded g)) (listed_of g.modules) bytes ≡ Ok (line.Matrix name w)
+      → AnswersProduct (loaded_state g k ended) n bytes name w
   product_from fits said =
-      let found = named_module s.modules name fits.1 in
-      record { group = g; word = word_of_group fits; acted_on = found.0; named = found.1; built = built_of_name found.0 found.1; answers = matrix_does found.0 found.1 said }
+      let found = named_module g.modules name fits.1 in
+      record {
+        group = g;
+        stage_is = refl;
+        loaded = there;
+        word = λ c. fits.2 (frame_with g.frame.field g.frame.datum c) refl (record { d_is = refl; l_is = refl; m_is = refl }) there.frame.lawful.lawful.loaded;
+        acted_on = found.0;
+        named = found.1;
+        built = built_of_name found.0 found.1;
+        answers = matrix_does found.0 found.1 said;
+      }
+
+no_command : (b : Bool) → cond b wants.Root wants.Coroot ≡ wants.Command → ⊥
+no_command true h = absurd cc
+no_command false h = absurd cc
+
+product_at : (at : Stage) (k : ℕ) (ended : Bool) (n : ℕ) (bytes name : List ℕ) (w : List Letter) → IsReached at → Fits (wants_of at) (sizes_of at) (listed_of (modules_of at)) (line.Matrix name w)
+    → reads (wants_of at) (sizes_of at) (listed_of (modules_of at)) bytes ≡ Ok (line.Matrix name w) → AnswersProduct (record { stage = at; refusals = k; ended = ended }) n bytes name w
+product_at stage.Field k ended n bytes name w there fits said = absurd (clash fits.0) where
+  clash : wants.Field ≡ wants.Command → ⊥
+  clash e = absurd cc
+product_at (stage.Datum F) k ended n bytes name w there fits said = absurd (clash fits.0) where
+  clash : wants.Datum ≡ wants.Command → ⊥
+  clash e = absurd cc
+product_at (stage.Lines F lines) k ended n bytes name w there fits said = absurd (no_command _ fits.0)
+product_at (stage.Load setting) k ended n bytes name w there fits said = absurd (clash fits.0) where
+  clash : wants.Load ≡ wants.Command → ⊥
+  clash e = absurd cc
+product_at (stage.Loaded g) k ended n bytes name w there fits said = product_from g there k ended n bytes name w fits said
 
 -- each line that asks for the matrix of a word is answered by the rows of the product of the matrices of its letters
 pub matrices_are_products : MatricesAreProducts
 matrices_are_products mode lines replies s n bytes name w h said =
-    let fits : Fits (wants_of s) (sizes_of s) (listed_of s.modules) (line.Matrix name w) =
-    IfOk-at_ok (Fits (wants_of s) (sizes_of s) (listed_of s.modules)) said (accepted-fits (wants_of s) (sizes_of s) (listed_of s.modules) bytes) in
-    product_from s n bytes name w ((reached_to mode lines replies s h).1.group (late_from s fits.0)) fits said
+    let P = Fits (wants_of s.stage) (sizes_of s.stage) (listed_of (modules_of s.stage)) in
+    let fits : P (line.Matrix name w) = IfOk-at_ok P said (accepted-fits (wants_of s.stage) (sizes_of s.stage) (listed_of (modules_of s.stage)) bytes) in
+    product_at s.stage s.refusals s.ended n bytes name w (reached_to mode lines replies s h) fits said

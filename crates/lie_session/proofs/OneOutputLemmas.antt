@@ -1,213 +1,298 @@
--- A script has one output alone.
-use Rattle.std.proofs.Common.{◌≡◌, ◌≢◌, ℕ, ◌+◌, Bool, true, false, List, [], ◌∷◌, ◌++◌, length, Option, Some, None, sym, ap, ap₂, ◌∙◌, subst, inl, inr, Result, Ok, Err}
-use Rattle.std.specs.Prelude.{MatchOption, MatchResult, ℤ, map, nat_abs}
+-- Two outputs of a script are the same but for forms.
+use Rattle.std.proofs.Common.{◌≡◌, ℕ, ◌+◌, Bool, true, false, cond, ◌||◌, List, [], ◌∷◌, ◌++◌, length, append-nil, Option, Some, None, refl, sym, ap, ap₂, ◌∙◌, subst, ◌⊎◌, inl, inr, Result, Ok, Err}
 use Rattle.std.specs.Bool.{MatchBool}
-use Rattle.std.specs.Option.{IfSome}
-use Rattle.lie_datum.specs.RootList.{RootDatum, IsLoaded}
-use Rattle.lie_datum.specs.declared.faults.DatumFault.{DatumFault}
-use Rattle.lie_datum.specs.declared.faults.DatumFault.TheVariants as datum_fault
-use Rattle.lie_datum.proofs.OneAnswer.{loads_one_way}
-use Rattle.lie_field.specs.FiniteField.{FiniteField, same_field}
-use Rattle.lie_field.specs.Algebra.FieldTest.{is_lawful}
-use Rattle.lie_field.specs.Faults.{IsWithinLimit, IsFault}
-use Rattle.lie_field.specs.Quotient.{FieldData, field_data, IsFieldData}
-use Rattle.lie_field.specs.declared.faults.FieldFault.{FieldFault}
-use Rattle.lie_field.specs.declared.faults.FieldFault.TheVariants as field_fault
-use Rattle.lie_field.proofs.FaultLemmas.{faults_once, field_has_no_fault}
-use Rattle.lie_letters.specs.declared.letter.Letter.{Letter}
+use Rattle.std.specs.List.{AllByRecursion}
+use Rattle.std.specs.Option.{IsSome, IsSomeAnd}
 use Rattle.lie_script.specs.Reading.{reads}
-use Rattle.lie_script.specs.Texts.{line_fault}
+use Rattle.lie_script.specs.Texts.{line_fault, refusal, name_of}
 use Rattle.lie_script.specs.declared.faults.Fault.{Fault}
+use Rattle.lie_script.specs.declared.faults.FaultName.TheVariants as fault
 use Rattle.lie_script.specs.declared.line.Line.{Line}
 use Rattle.lie_script.specs.declared.line.Line.TheVariants as line
-use Rattle.lie_session.specs.DatumLines.{DatumLines, opened, with_root, with_coroot, is_whole, base_of}
-use Rattle.lie_session.specs.Faults.{field_refusal, datum_refusal}
+use Rattle.lie_session.specs.Faults.{Words, words_of}
 use Rattle.lie_session.specs.Lines.{lines_of}
-use Rattle.lie_session.specs.State.{State, fresh, whole, wants_of, sizes_of}
-use Rattle.lie_audit.specs.WordMatrix.{word_matrix}
-use Rattle.lie_reply.specs.Modules.{matrix_text}
-use Rattle.lie_reply.specs.Texts.{roots_text}
-use Rattle.lie_session.specs.Named.{module_of, listed_of}
-use Rattle.lie_session.specs.Replies.{Refuses, Accepts, Answers, KeepsField, KeepsDatum, ReadsDatum, LoadsGroup, InDatum, AnswersForm, AnswersConstant, AnswersWeyl, NamesAdjoint, NamesOrbit, WithSigns, AnswersMatrix, Does, Replies, RepliesAtEnd, line_refusal}
-use Rattle.lie_session.specs.Output.{rests, RepliesTo, AreReplies, bytes_of, status_of, IsOutput}
-use Rattle.lie_session.specs.declared.datum.DatumStage.{DatumStage}
-use Rattle.lie_session.specs.declared.datum.DatumStage.TheVariants as datum
+use Rattle.lie_session.specs.Named.{listed_of}
+use Rattle.lie_session.specs.OneOutput.{AreForms, AreAlike, AreAlikeOutputs, AsksNoForm, OneOutputUpToForms, OneOutputWithoutForms}
+use Rattle.lie_session.specs.Outcomes.{Outcome, Leads}
+use Rattle.lie_session.specs.Output.{rests, RepliesTo, AreReplies, bytes_of, has, is_fatal, is_refused, status_of, IsOutput}
+use Rattle.lie_session.specs.Replies.{next_count, over, Refuses, Accepts, Tells, Does, DoesRead, Replies, RepliesAtEnd, SaysLine, line_refusal}
+use Rattle.lie_session.specs.State.{State, fresh, is_loaded, modules_of, wants_of, sizes_of}
 use Rattle.lie_session.specs.declared.mode.Mode.{Mode}
+use Rattle.lie_session.specs.declared.mode.Mode.TheVariants.{Run, Check}
+use Rattle.lie_session.specs.declared.reply.Kind.{Kind}
+use Rattle.lie_session.specs.declared.reply.Kind.TheVariants as kind
 use Rattle.lie_session.specs.declared.reply.Reply.{Reply}
+use Rattle.lie_session.specs.declared.stage.Stage.{Stage}
+use Rattle.lie_session.specs.declared.stage.Stage.TheVariants as stage
 use Rattle.lie_session.specs.declared.status.Status.{Status}
-use Rattle.lie_session.proofs.ChangeLemmas.{IsSoundState, sound_from}
-use Rattle.lie_reply.proofs.ConstantLemmas.{one_constant_text}
-use Rattle.lie_reply.proofs.TextLemmas.{one_text}
-use Rattle.lie_reply.proofs.WeylLemmas.{one_weyl_text}
-use Rattle.lie_session.proofs.OneLoading.{Same, both, refused_alike, one_loading, one_adjoint_name, one_orbit_name}
+use Rattle.lie_session.specs.declared.status.Status.TheVariants.{Done, Refused, LoadRefused}
+use Rattle.lie_session.proofs.LoadedLemmas.{IsReached, reached_from}
+use Rattle.lie_session.proofs.OneOutcome.{IsSameStage, equal, groups, AreFormTexts, AreAlikeTexts, IsSameOutcome, IsTold, leads_once}
+use Rattle.lie_session.proofs.StatusLemmas.{has-append}
 
--- a field within the limits has no fault
-no_fault : (given : FieldData) (F : FiniteField) (why : FieldFault) → F.given ≡ given → IsWithinLimit F.given → IsFault given why → why ≡ field_fault.NoMemory
-no_fault given F why is sized fault = field_has_no_fault given (subst IsWithinLimit is sized) (subst IsFieldData is (is_lawful F)) why fault
+-- one state, up to constants that say the same
+pub record IsSame (s t : State) : Type 0 where
+  pub stages : IsSameStage s.stage t.stage
+  pub refusals : s.refusals ≡ t.refusals
+  pub ended : s.ended ≡ t.ended
 
-one_field : (s : State) (n p : ℕ) (coeffs : List ℤ) (g : ℕ) (r r' : Reply) (t t' : State) → KeepsField s n p coeffs g r t → KeepsField s n p coeffs g r' t' → Same r r' t t'
-one_field s n p coeffs g r r' t t' (inl h) (inl h') =
-    let same : h.0 ≡ h'.0 = same_field h.0 h'.0 (h.1 ∙ sym h'.1) in
-    (h.3.0 ∙ sym h'.3.0, h.3.1 ∙ ap (λ (F : FiniteField). record s { field = Some F }) same ∙ sym h'.3.1)
-one_field s n p coeffs g r r' t t' (inl h) (inr h') = absurd (h'.1 (no_fault (field_data p (map nat_abs coeffs) g) h.0 h'.0 h.1 h.2 h'.2))
-one_field s n p coeffs g r r' t t' (inr h) (inl h') = absurd (h.1 (no_fault (field_data p (map nat_abs coeffs) g) h'.0 h.0 h'.1 h'.2 h.2))
-one_field s n p coeffs g r r' t t' (inr h) (inr h') =
-    refused_alike s (field_refusal n h.0) (field_refusal n h'.0) r r' t t' (ap (field_refusal n) (faults_once (field_data p (map nat_abs coeffs) g) h.0 h'.0 h.2 h'.2 h.1 h'.1)) h.3 h'.3
+-- one reply, and one state after it
+abbrev IsOne : Reply → Reply → State → State → Type 0
+IsOne a b next other = (a ≡ b) × IsSame next other
 
--- what loading a datum answers
-abbrev Answer : Type 0
-Answer = Result RootDatum DatumFault
+-- two replies and states by four equations
+by_equations : (a b : Reply) (next other : State) (c : Reply) (t u : State) → a ≡ c → b ≡ c → next ≡ t → other ≡ u → IsSame t u → IsOne a b next other
+by_equations a b next other c t u a_is b_is next_is other_is same =
+    (a_is ∙ sym b_is, subst (λ (x : State). IsSame x other) (sym next_is) (subst (λ (x : State). IsSame t x) (sym other_is) same))
 
-ok_named : (D : RootDatum) → ◌≡◌ {A = Answer} (Ok D) (Err datum_fault.NoMemory) → ⊥
-ok_named D e = absurd cc
+-- ---- what is the same of both
 
-err_named : (why : DatumFault) → why ≢ datum_fault.NoMemory → ◌≡◌ {A = Answer} (Err why) (Err datum_fault.NoMemory) → ⊥
-err_named why named e = let is : why ≡ datum_fault.NoMemory = cc in named is
+loaded_same : (at to : Stage) → IsSameStage at to → is_loaded at ≡ is_loaded to
+loaded_same _ _ (equal at) = refl
+loaded_same _ _ (groups g c table) = refl
 
-ok_is : (D D' : RootDatum) → ◌≡◌ {A = Answer} (Ok D) (Ok D') → D ≡ D'
-ok_is D D' e = cc
+read_same : (at to : Stage) → IsSameStage at to → (bytes : List ℕ) → reads (wants_of at) (sizes_of at) (listed_of (modules_of at)) bytes ≡ reads (wants_of to) (sizes_of to) (listed_of (modules_of to)) bytes
+read_same _ _ (equal at) bytes = refl
+read_same _ _ (groups g c table) bytes = refl
 
-err_is : (why why' : DatumFault) → ◌≡◌ {A = Answer} (Err why) (Err why') → why ≡ why'
-err_is why why' e = cc
+rests_same : (mode : Mode) (s t : State) → IsSame s t → rests mode s ≡ rests mode t
+rests_same Run s t same = same.ended
+rests_same Check s t same = ap₂ ◌||◌ same.ended (loaded_same s.stage t.stage same.stages)
 
-ok_err : (D : RootDatum) (why : DatumFault) → ◌≡◌ {A = Answer} (Ok D) (Err why) → ⊥
-ok_err D why e = absurd cc
+-- ---- one reply to a line
 
-one_datum : (s : State) (n : ℕ) (lines : DatumLines) (r r' : Reply) (t t' : State) → KeepsDatum s n lines r t → KeepsDatum s n lines r' t' → Same r r' t t'
-one_datum s n lines r r' t t' (inl h) (inl h') =
-    let same : h.0 ≡ h'.0 = ok_is h.0 h'.0 (loads_one_way (base_of lines) (Ok h.0) (Ok h'.0) h.1 h'.1 (ok_named h.0) (ok_named h'.0)) in
-    (h.2.0 ∙ sym h'.2.0, h.2.1 ∙ ap (λ (D : RootDatum). record s { datum = datum.Whole D }) same ∙ sym h'.2.1)
-one_datum s n lines r r' t t' (inl h) (inr h') = absurd (ok_err h.0 h'.0 (loads_one_way (base_of lines) (Ok h.0) (Err h'.0) h.1 h'.2 (ok_named h.0) (err_named h'.0 h'.1)))
-one_datum s n lines r r' t t' (inr h) (inl h') = absurd (ok_err h'.0 h.0 (loads_one_way (base_of lines) (Ok h'.0) (Err h.0) h'.1 h.2 (ok_named h'.0) (err_named h.0 h.1)))
-one_datum s n lines r r' t t' (inr h) (inr h') =
-    refused_alike s (datum_refusal n lines.rank h.0) (datum_refusal n lines.rank h'.0) r r' t t'
-    (ap (datum_refusal n lines.rank) (err_is h.0 h'.0 (loads_one_way (base_of lines) (Err h.0) (Err h'.0) h.2 h'.2 (err_named h.0 h.1) (err_named h'.0 h'.1)))) h.3 h'.3
+refused_once : (loaded : Bool) (s t : State) (text : List ℕ) (a b : Reply) (next other : State) → IsSame s t
+    → (a ≡ record { kind = cond loaded kind.Refused kind.Fatal; bytes = text }) × (next ≡ cond loaded (record s { refusals = next_count s.refusals }) (over s))
+    → (b ≡ record { kind = cond loaded kind.Refused kind.Fatal; bytes = text }) × (other ≡ cond loaded (record t { refusals = next_count t.refusals }) (over t)) → IsOne a b next other
+refused_once true s t text a b next other same h k =
+    by_equations a b next other (record { kind = kind.Refused; bytes = text }) (record s { refusals = next_count s.refusals }) (record t { refusals = next_count t.refusals }) h.0 k.0 h.1 k.1
+    (record { stages = same.stages; refusals = ap next_count same.refusals; ended = same.ended })
+refused_once false s t text a b next other same h k =
+    by_equations a b next other (record { kind = kind.Fatal; bytes = text }) (over s) (over t) h.0 k.0 h.1 k.1 (record { stages = equal stage.Field; refusals = same.refusals; ended = refl })
 
-one_joined : (last : Bool) (s : State) (n : ℕ) (lines : DatumLines) (r r' : Reply) (t t' : State)
-    → MatchBool last (KeepsDatum s n lines r t) (Accepts (record s { datum = datum.Reading lines }) r t)
-    → MatchBool last (KeepsDatum s n lines r' t') (Accepts (record s { datum = datum.Reading lines }) r' t') → Same r r' t t'
-one_joined true s n lines r r' t t' h h' = one_datum s n lines r r' t t' h h'
-one_joined false s n lines r r' t t' h h' = both h h'
+refuses_once : (s t : State) (text : List ℕ) (a b : Reply) (next other : State) → IsSame s t → Refuses s text a next → Refuses t text b other → IsOne a b next other
+refuses_once s t text a b next other same h k =
+    refused_once (is_loaded s.stage) s t text a b next other same h
+    (subst (λ z. (b ≡ record { kind = cond z kind.Refused kind.Fatal; bytes = text }) × (other ≡ cond z (record t { refusals = next_count t.refusals }) (over t)))
+    (sym (loaded_same s.stage t.stage same.stages)) k)
 
-one_in_datum : (s : State) (n : ℕ) (grown : DatumLines → DatumLines) (stage : DatumStage) (r r' : Reply) (t t' : State)
-    → InDatum stage (λ lines. ReadsDatum s n (grown lines) r t) → InDatum stage (λ lines. ReadsDatum s n (grown lines) r' t') → Same r r' t t'
-one_in_datum s n grown datum.Missing r r' t t' h h' = absurd h
-one_in_datum s n grown (datum.Reading lines) r r' t t' h h' = one_joined (is_whole (grown lines)) s n (grown lines) r r' t t' h h'
-one_in_datum s n grown (datum.Whole D) r r' t t' h h' = absurd h
+-- two replies to the line: one, or answers with texts of forms
+abbrev AreSameReplies : Stage → Line → Reply → Reply → Type 0
+AreSameReplies at said a b = (a ≡ b) ⊎ ((a.kind ≡ kind.Answer) × (b.kind ≡ kind.Answer) × AreFormTexts at said a.bytes b.bytes)
 
--- the same answer, by a text that the field and the datum tell
-one_answer : (s : State) (text : FiniteField → RootDatum → List ℕ) (field : Option FiniteField) (d : Option RootDatum) (r r' : Reply) (t t' : State)
-    → MatchOption field ⊥ (λ F. MatchOption d ⊥ (λ D. Answers s (text F D) r t))
-    → MatchOption field ⊥ (λ F. MatchOption d ⊥ (λ D. Answers s (text F D) r' t')) → Same r r' t t'
-one_answer s text None d r r' t t' h h' = absurd h
-one_answer s text (Some F) None r r' t t' h h' = absurd h
-one_answer s text (Some F) (Some D) r r' t t' h h' = both h h'
+-- with one state after them
+abbrev AreAnswered : Stage → Line → Reply → Reply → State → State → Type 0
+AreAnswered at said a b next other = AreSameReplies at said a b × IsSame next other
 
-answered_alike : (s : State) (text text' : List ℕ) (r r' : Reply) (t t' : State) → text ≡ text' → Answers s text r t → Answers s text' r' t' → Same r r' t t'
-answered_alike s text text' r r' t t' same h h' = both h (subst (λ z. Answers s z r' t') (sym same) h')
+-- two states by two equations
+by_states : (next other t u : State) → next ≡ t → other ≡ u → IsSame t u → IsSame next other
+by_states next other t u next_is other_is same = subst (λ (x : State). IsSame x other) (sym next_is) (subst (λ (x : State). IsSame t x) (sym other_is) same)
 
-one_form : (s : State) (w : List Letter) (field : Option FiniteField) (d : Option RootDatum) (r r' : Reply) (t t' : State)
-    → MatchOption field ⊥ (λ F. MatchOption d ⊥ (λ D. AnswersForm s F D w r t))
-    → MatchOption field ⊥ (λ F. MatchOption d ⊥ (λ D. AnswersForm s F D w r' t')) → Same r r' t t'
-one_form s w None d r r' t t' h h' = absurd h
-one_form s w (Some F) None r r' t t' h h' = absurd h
-one_form s w (Some F) (Some D) r r' t t' h h' = answered_alike s h.0 h'.0 r r' t t' (one_text F D w h.0 h'.0 h.1 h'.1) h.2 h'.2
+one_answered : (at : Stage) (said : Line) (a b : Reply) (next other : State) → IsOne a b next other → AreAnswered at said a b next other
+one_answered at said a b next other one = (inl one.0, one.1)
 
-one_weyl : (s : State) (indices : List ℤ) (field : Option FiniteField) (d : Option RootDatum) (r r' : Reply) (t t' : State) → IfSome d IsLoaded
-    → MatchOption field ⊥ (λ F. MatchOption d ⊥ (λ D. AnswersWeyl s D indices r t))
-    → MatchOption field ⊥ (λ F. MatchOption d ⊥ (λ D. AnswersWeyl s D indices r' t')) → Same r r' t t'
-one_weyl s indices None d r r' t t' loaded h h' = absurd h
-one_weyl s indices (Some F) None r r' t t' loaded h h' = absurd h
-one_weyl s indices (Some F) (Some D) r r' t t' loaded h h' = answered_alike s h.0 h'.0 r r' t t' (one_weyl_text D indices h.0 h'.0 loaded h.1 h'.1) h.2 h'.2
+texts_once : (at : Stage) (said : Line) (s t : State) (x y : List ℕ) (a b : Reply) (next other : State) → IsSame s t → (x ≡ y) ⊎ AreFormTexts at said x y
+    → (a ≡ record { kind = kind.Answer; bytes = x }) × (next ≡ s) → (b ≡ record { kind = kind.Answer; bytes = y }) × (other ≡ t) → AreAnswered at said a b next other
+texts_once at said s t x y a b next other same (inl e) h k =
+    (inl (h.0 ∙ ap (λ (z : List ℕ). answer z) e ∙ sym k.0), by_states next other s t h.1 k.1 same) where
+      answer : List ℕ → Reply
+      answer z = record { kind = kind.Answer; bytes = z }
+texts_once at said s t x y a b next other same (inr forms) h k = (
+  inr (
+    ap (λ (r : Reply). r.kind) h.0,
+    ap (λ (r : Reply). r.kind) k.0,
+    subst (λ (z : List ℕ). AreFormTexts at said z b.bytes) (sym (ap (λ (r : Reply). r.bytes) h.0)) (subst (λ (z : List ℕ). AreFormTexts at said x z) (sym (ap (λ (r : Reply). r.bytes) k.0)) forms),
+  ),
+  by_states next other s t h.1 k.1 same,
+)
 
-one_constant : (s : State) (p q : ℤ) (field : Option FiniteField) (d : Option RootDatum) (r r' : Reply) (t t' : State) → IfSome d IsLoaded
-    → MatchOption field ⊥ (λ F. MatchOption d ⊥ (λ D. AnswersConstant s D p q r t))
-    → MatchOption field ⊥ (λ F. MatchOption d ⊥ (λ D. AnswersConstant s D p q r' t')) → Same r r' t t'
-one_constant s p q None d r r' t t' loaded h h' = absurd h
-one_constant s p q (Some F) None r r' t t' loaded h h' = absurd h
-one_constant s p q (Some F) (Some D) r r' t t' loaded h h' = answered_alike s h.0 h'.0 r r' t t' (one_constant_text D p q h.0 h'.0 loaded h.1 h'.1) h.2 h'.2
+accepts_once : (at : Stage) (said : Line) (s t : State) (x y : Option (List ℕ)) (a b : Reply) (next other : State) → IsSame s t → AreAlikeTexts at said x y → Accepts s x a next → Accepts t y b other
+    → AreAnswered at said a b next other
+accepts_once at said s t None None a b next other same alike h k =
+    one_answered at said a b next other (by_equations a b next other (record { kind = kind.Silent; bytes = [] }) s t h.0 k.0 h.1 k.1 same)
+accepts_once at said s t None (Some y) a b next other same alike h k = absurd alike
+accepts_once at said s t (Some x) None a b next other same alike h k = absurd alike
+accepts_once at said s t (Some x) (Some y) a b next other same alike h k = texts_once at said s t x y a b next other same alike h k
 
-one_group : (s : State) (n : ℕ) (field : Option FiniteField) (d : Option RootDatum) (r r' : Reply) (t t' : State) → IfSome d IsLoaded
-    → MatchOption field ⊥ (λ F. MatchOption d ⊥ (λ D. LoadsGroup s n F D r t))
-    → MatchOption field ⊥ (λ F. MatchOption d ⊥ (λ D. LoadsGroup s n F D r' t')) → Same r r' t t'
-one_group s n None d r r' t t' loaded h h' = absurd h
-one_group s n (Some F) None r r' t t' loaded h h' = absurd h
-one_group s n (Some F) (Some D) r r' t t' loaded h h' = one_loading s n F D r r' t t' loaded h h'
+worded_once : (s t : State) (n : ℕ) (words : Option Words) (a b : Reply) (next other : State) → IsSame s t → IsSomeAnd words (λ w. Refuses s (refusal n w.0 w.1) a next)
+    → IsSomeAnd words (λ w. Refuses t (refusal n w.0 w.1) b other) → IsOne a b next other
+worded_once s t n None a b next other same h k = absurd h
+worded_once s t n (Some w) a b next other same h k = refuses_once s t (refusal n w.0 w.1) a b next other same h k
 
--- of two replies by the field, the datum and one more value
-one_with : (P P' : FiniteField → RootDatum → Type 0) (field : Option FiniteField) (d : Option RootDatum) (r r' : Reply) (t t' : State) → IfSome d IsLoaded
-    → ((F : FiniteField) (D : RootDatum) → IsLoaded D → P F D → P' F D → Same r r' t t')
-    → MatchOption field ⊥ (λ F. MatchOption d ⊥ (λ D. P F D)) → MatchOption field ⊥ (λ F. MatchOption d ⊥ (λ D. P' F D)) → Same r r' t t'
-one_with P P' None d r r' t t' loaded go h h' = absurd h
-one_with P P' (Some F) None r r' t t' loaded go h h' = absurd h
-one_with P P' (Some F) (Some D) r r' t t' loaded go h h' = go F D loaded h h'
+tells_once : (at : Stage) (said : Line) (s t : State) (n : ℕ) (r q : Outcome) (a b : Reply) (next other : State) → IsSame s t → IsSameOutcome at said r q → Tells s n r a next → Tells t n q b other
+    → AreAnswered at said a b next other
+tells_once at said s t n (Ok x) (Ok y) a b next other same one h k =
+    accepts_once at said (record s { stage = x.0 }) (record t { stage = y.0 }) x.1 y.1 a b next other (record { stages = one.0; refusals = same.refusals; ended = same.ended }) one.1 h k
+tells_once at said s t n (Ok x) (Err why) a b next other same one h k = absurd one
+tells_once at said s t n (Err why) (Ok y) a b next other same one h k = absurd one
+tells_once at said s t n (Err why) (Err why') a b next other same one h k =
+    one_answered at said a b next other
+    (worded_once s t n (words_of why) a b next other same h (subst (λ z. IsSomeAnd (words_of z) (λ w. Refuses t (refusal n w.0 w.1) b other)) (sym one) k))
 
-one_some : {A : Type 0} (P P' : A → Type 0) (o : Option A) (r r' : Reply) (t t' : State) → ((a : A) → P a → P' a → Same r r' t t') → MatchOption o ⊥ P → MatchOption o ⊥ P' → Same r r' t t'
-one_some P P' None r r' t t' go h h' = absurd h
-one_some P P' (Some a) r r' t t' go h h' = go a h h'
+some_of : (o : Option Words) (P : Words → Type 0) → IsSomeAnd o P → IsSome o
+some_of None P h = absurd h
+some_of (Some w) P h = refl
 
-one_done : (s : State) (n : ℕ) (said : Line) (r r' : Reply) (t t' : State) → IsSoundState s → Does s n said r t → Does s n said r' t' → Same r r' t t'
-one_done s n line.Silent r r' t t' sound h h' = both h h'
-one_done s n (line.Field p k coeffs g) r r' t t' sound h h' = one_field s n p coeffs g r r' t t' h h'
-one_done s n (line.Datum d l) r r' t t' sound h h' = one_joined (is_whole (opened d l)) s n (opened d l) r r' t t' h h'
-one_done s n (line.Root v) r r' t t' sound h h' = one_in_datum s n (λ lines. with_root lines v) s.datum r r' t t' h h'
-one_done s n (line.Coroot v) r r' t t' sound h h' = one_in_datum s n (λ lines. with_coroot lines v) s.datum r r' t t' h h'
-one_done s n line.Load r r' t t' sound h h' = one_group s n s.field (whole s.datum) r r' t t' sound.loaded h h'
-one_done s n (line.Form w) r r' t t' sound h h' = one_form s w s.field (whole s.datum) r r' t t' h h'
-one_done s n line.Roots r r' t t' sound h h' = one_answer s (λ F D. roots_text D) s.field (whole s.datum) r r' t t' h h'
-one_done s n (line.Constant p q) r r' t t' sound h h' = one_constant s p q s.field (whole s.datum) r r' t t' sound.loaded h h'
-one_done s n (line.Weyl indices) r r' t t' sound h h' = one_weyl s indices s.field (whole s.datum) r r' t t' sound.loaded h h'
-one_done s n (line.Adjoint name) r r' t t' sound h h' =
-    one_with (λ F D. NamesAdjoint s D name r t) (λ F D. NamesAdjoint s D name r' t') s.field (whole s.datum) r r' t t' sound.loaded (λ F D loaded a b. one_adjoint_name s D name r r' t t' loaded a b) h h'
-one_done s n (line.Orbit name w) r r' t t' sound h h' =
-    one_with (λ F D. WithSigns s (λ signs. NamesOrbit s n D signs name w r t)) (λ F D. WithSigns s (λ signs. NamesOrbit s n D signs name w r' t')) s.field (whole s.datum) r r' t t' sound.loaded
-    (λ F D loaded a b. one_some (λ signs. NamesOrbit s n D signs name w r t) (λ signs. NamesOrbit s n D signs name w r' t') s.signs r r' t t' (λ signs x y. one_orbit_name s n D signs name w r r' t t' loaded x y) a b) h h'
-one_done s n (line.Matrix name w) r r' t t' sound h h' =
-    one_with (λ F D. AnswersMatrix s F name w r t) (λ F D. AnswersMatrix s F name w r' t') s.field (whole s.datum) r r' t t' sound.loaded
-    (λ F D loaded a b. one_some (λ v. Answers s (matrix_text (word_matrix F v w)) r t) (λ v. Answers s (matrix_text (word_matrix F v w)) r' t') (module_of s.modules name) r r' t t' (λ v x y. both x y) a b) h h'
+told_from : (s : State) (n : ℕ) (r : Outcome) (reply : Reply) (next : State) → Tells s n r reply next → IsTold r
+told_from s n (Ok x) reply next h = tt
+told_from s n (Err why) reply next h = some_of (words_of why) (λ w. Refuses s (refusal n w.0 w.1) reply next) h
 
-one_said : (s : State) (n : ℕ) (read : Result Line Fault) (r r' : Reply) (t t' : State) → IsSoundState s
-    → MatchResult read (λ said. Does s n said r t) (λ why. Refuses s (line_refusal n (line_fault why)) r t)
-    → MatchResult read (λ said. Does s n said r' t') (λ why. Refuses s (line_refusal n (line_fault why)) r' t') → Same r r' t t'
-one_said s n (Ok said) r r' t t' sound h h' = one_done s n said r r' t t' sound h h'
-one_said s n (Err why) r r' t t' sound h h' = both h h'
+-- what two replies to a line that says this are
+alike_from : (s : State) (bytes : List ℕ) (said : Line) (a b : Reply) → SaysLine s bytes said → AreSameReplies s.stage said a b → (a ≡ b) ⊎ AreForms s bytes a b
+alike_from s bytes said a b says (inl same) = inl same
+alike_from s bytes said a b says (inr forms) =
+    let texts = forms.2 in
+    inr (record {
+      word = texts.word;
+      says = says_so texts.says;
+      frame = texts.frame;
+      other = texts.other;
+      field_is = texts.field_is;
+      datum_is = texts.datum_is;
+      same = texts.same;
+      kinds = (forms.0, forms.1);
+      left = texts.left;
+      right = texts.right;
+    }) where
+      says_so : (said ≡ line.Form forms.2.word) ⊎ (said ≡ line.Collect forms.2.word) → SaysLine s bytes (line.Form forms.2.word) ⊎ SaysLine s bytes (line.Collect forms.2.word)
+      says_so (inl is) = inl (says ∙ ap (λ z. read_as z) is) where
+        read_as : Line → Result Line Fault
+        read_as z = Ok z
+      says_so (inr is) = inr (says ∙ ap (λ z. read_as z) is) where
+        read_as : Line → Result Line Fault
+        read_as z = Ok z
 
--- a line has one reply
-one_reply : (s : State) (n : ℕ) (bytes : List ℕ) (r r' : Reply) (t t' : State) → IsSoundState s → Replies s n bytes r t → Replies s n bytes r' t' → Same r r' t t'
-one_reply s n bytes r r' t t' sound h h' = one_said s n (reads (wants_of s) (sizes_of s) (listed_of s.modules) bytes) r r' t t' sound h h'
+-- two replies, with one state after them
+abbrev AreReplied : State → List ℕ → Reply → Reply → State → State → Type 0
+AreReplied s bytes a b next other = ((a ≡ b) ⊎ AreForms s bytes a b) × IsSame next other
 
--- lines have the same replies
-one_run : (mode : Mode) (s : State) (n : ℕ) (lines : List (List ℕ)) (a b : List Reply) (t u : State) → IsSoundState s → RepliesTo mode s n lines a t → RepliesTo mode s n lines b u → (a ≡ b) × (t ≡ u)
-one_run mode s n [] a b t u sound h h' = (h.0 ∙ sym h'.0, h.1 ∙ sym h'.1)
-one_run mode s n (line ∷ lines) a b t u sound h h' = by_ended (rests mode s) h h' (λ next others others' there on on'. one_run mode next (n + 1) lines others others' t u there on on') where
-  by_ended : (ended : Bool)
-      → MatchBool ended ((a ≡ []) × (t ≡ s)) ((r : Reply) × (next : State) × (others : List Reply) × Replies s (n + 1) line r next × (a ≡ r ∷ others) × RepliesTo mode next (n + 1) lines others t)
-      → MatchBool ended ((b ≡ []) × (u ≡ s)) ((r : Reply) × (next : State) × (others : List Reply) × Replies s (n + 1) line r next × (b ≡ r ∷ others) × RepliesTo mode next (n + 1) lines others u)
-      → ((next : State) (others others' : List Reply) → IsSoundState next → RepliesTo mode next (n + 1) lines others t → RepliesTo mode next (n + 1) lines others' u → (others ≡ others') × (t ≡ u))
-      → (a ≡ b) × (t ≡ u)
-  by_ended true h h' on = (h.0 ∙ sym h'.0, h.1 ∙ sym h'.1)
-  by_ended false h h' on =
-      let one = one_reply s (n + 1) line h.0 h'.0 h.1 h'.1 sound h.3 h'.3 in
-      let same = on h.1 h.2 h'.2 (sound_from s (n + 1) line h.0 h.1 sound h.3) h.5 (subst (λ (z : State). RepliesTo mode z (n + 1) lines h'.2 u) (sym one.1) h'.5) in
-      (h.4 ∙ ap₂ (λ (r : Reply) (z : List Reply). r ∷ z) one.0 same.0 ∙ sym h'.4, same.1)
+replied_once : (s t : State) (n : ℕ) (bytes : List ℕ) (read : Result Line Fault) (a b : Reply) (next other : State) → reads (wants_of s.stage) (sizes_of s.stage) (listed_of (modules_of s.stage)) bytes ≡ read
+    → IsReached s.stage → IsSame s t
+    → DoesRead s n a next read → DoesRead t n b other read → AreReplied s bytes a b next other
+replied_once s t n bytes (Ok said) a b next other is there same h k =
+    let one = tells_once s.stage said s t n h.0 k.0 a b next other same
+    (leads_once s.stage t.stage same.stages said h.0 k.0 there (told_from s n h.0 a next h.2) (told_from t n k.0 b other k.2) h.1 k.1) h.2 k.2 in
+    (alike_from s bytes said a b is one.0, one.1)
+replied_once s t n bytes (Err why) a b next other is there same h k =
+    let one = refuses_once s t (line_refusal n (line_fault why)) a b next other same h k in
+    (inl one.0, one.1)
 
-one_end : (input : List ℕ) (front : List Reply) (last : State) (a b : List Reply) (ended : Bool)
-    → MatchBool ended (a ≡ front) ((r : Reply) × (over : State) × RepliesAtEnd last (length (lines_of input)) r over × (a ≡ front ++ r ∷ []))
-    → MatchBool ended (b ≡ front) ((r : Reply) × (over : State) × RepliesAtEnd last (length (lines_of input)) r over × (b ≡ front ++ r ∷ [])) → a ≡ b
-one_end input front last a b true h h' = h ∙ sym h'
-one_end input front last a b false h h' = h.3 ∙ ap (λ (r : Reply). front ++ r ∷ []) (h.2.0 ∙ sym h'.2.0) ∙ sym h'.3
+-- two replies to one line are alike
+replies_once : (s t : State) (n : ℕ) (bytes : List ℕ) (a b : Reply) (next other : State) → IsReached s.stage → IsSame s t → Replies s n bytes a next → Replies t n bytes b other → AreReplied s bytes a b next other
+replies_once s t n bytes a b next other there same h k =
+    replied_once s t n bytes (reads (wants_of s.stage) (sizes_of s.stage) (listed_of (modules_of s.stage)) bytes) a b next other refl there same h.told
+    (subst (DoesRead t n b other) (sym (read_same s.stage t.stage same.stages bytes)) k.told)
 
--- a script has the same replies
-one_script : (mode : Mode) (input : List ℕ) (a b : List Reply) → AreReplies mode input a → AreReplies mode input b → a ≡ b
-one_script mode input a b h h' =
-    let same = one_run mode fresh 0 (lines_of input) h.0 h'.0 h.1 h'.1 (record { sized = tt; loaded = tt }) h.2 h'.2 in
-    let again : MatchBool (rests mode h.1) (b ≡ h.0) ((r : Reply) × (over : State) × RepliesAtEnd h.1 (length (lines_of input)) r over × (b ≡ h.0 ++ r ∷ [])) =
-    subst (λ (z : List Reply). MatchBool (rests mode h.1) (b ≡ z) ((r : Reply) × (over : State) × RepliesAtEnd h.1 (length (lines_of input)) r over × (b ≡ z ++ r ∷ []))) (sym same.0)
-    (subst (λ (s : State). MatchBool (rests mode s) (b ≡ h'.0) ((r : Reply) × (over : State) × RepliesAtEnd s (length (lines_of input)) r over × (b ≡ h'.0 ++ r ∷ []))) (sym same.1) h'.3) in
-    one_end input h.0 h.1 a b (rests mode h.1) h.3 again
+-- replies to lines are alike
+one_run : (mode : Mode) (s t : State) (n : ℕ) (lines : List (List ℕ)) (a b : List Reply) (last end : State) → IsReached s.stage → IsSame s t → RepliesTo mode s n lines a last → RepliesTo mode t n lines b end
+    → AreAlike mode s n lines a b × IsSame last end
+one_run mode s t n [] a b last end there same h k = ((h.0, k.0), by_states last end s t h.1 k.1 same)
+one_run mode s t n (bytes ∷ lines) a b last end there same h k =
+    by_rest (rests mode s) h
+    (subst (λ z. MatchBool z ((b ≡ []) × (end ≡ t)) ((r : Reply) × (next : State) × (others : List Reply) × Replies t (n + 1) bytes r next × (b ≡ r ∷ others) × RepliesTo mode next (n + 1) lines others end))
+    (sym (rests_same mode s t same)) k)
+    (λ next other others others' reached alike on on'. one_run mode next other (n + 1) lines others others' last end reached alike on on') where
+      by_rest : (rest : Bool)
+          → MatchBool rest ((a ≡ []) × (last ≡ s)) ((r : Reply) × (next : State) × (others : List Reply) × Replies s (n + 1) bytes r next × (a ≡ r ∷ others) × RepliesTo mode next (n + 1) lines others last)
+          → MatchBool rest ((b ≡ []) × (end ≡ t)) ((r : Reply) × (next : State) × (others : List Reply) × Replies t (n + 1) bytes r next × (b ≡ r ∷ others) × RepliesTo mode next (n + 1) lines others end)
+          → ((next other : State) (others others' : List Reply) → IsReached next.stage → IsSame next other → RepliesTo mode next (n + 1) lines others last → RepliesTo mode other (n + 1) lines others' end
+          → AreAlike mode next (n + 1) lines others others' × IsSame last end)
+          → MatchBool rest ((a ≡ []) × (b ≡ []))
+          ((x : Reply) × (y : Reply) × (next : State) × (xs : List Reply) × (ys : List Reply) × Replies s (n + 1) bytes x next × ((x ≡ y) ⊎ AreForms s bytes x y)
+          × (a ≡ x ∷ xs) × (b ≡ y ∷ ys) × AreAlike mode next (n + 1) lines xs ys)
+          × IsSame last end
+      by_rest true h k on = ((h.0, k.0), by_states last end s t h.1 k.1 same)
+      by_rest false h k on =
+          let one = replies_once s t (n + 1) bytes h.0 k.0 h.1 k.1 there same h.3 k.3 in
+          let more = on h.1 k.1 h.2 k.2 (reached_from s (n + 1) bytes h.0 h.1 there h.3) one.1 h.5 k.5 in
+          ((h.0, k.0, h.1, h.2, k.2, h.3, one.0, h.4, k.4, more.0), more.1)
 
--- a script has one output alone, with one status
-pub one_output : (mode : Mode) (input out other : List ℕ) (status status' : Status) → IsOutput mode input out status → IsOutput mode input other status' → (out ≡ other) × (status ≡ status')
-one_output mode input out other status status' h h' =
-    let same = one_script mode input h.0 h'.0 h.1 h'.1 in
-    (h.2 ∙ ap bytes_of same ∙ sym h'.2, h.3 ∙ ap status_of same ∙ sym h'.3)
+-- the reply of the end
+abbrev end_reply : Bool → ℕ → Reply
+end_reply loaded n = cond loaded (record { kind = kind.Silent; bytes = [] }) (record { kind = kind.Fatal; bytes = refusal n (name_of fault.End) [] })
+
+-- behind replies there is nothing, or the reply of the end
+one_end : (n : ℕ) (front back : List Reply) (last end : State) (a b : List Reply) (rest : Bool) → IsSame last end
+    → MatchBool rest (a ≡ front) ((r : Reply) × (done : State) × RepliesAtEnd last n r done × (a ≡ front ++ r ∷ []))
+    → MatchBool rest (b ≡ back) ((r : Reply) × (done : State) × RepliesAtEnd end n r done × (b ≡ back ++ r ∷ [])) → (tail : List Reply) × (a ≡ front ++ tail) × (b ≡ back ++ tail)
+one_end n front back last end a b true same h k = ([], h ∙ sym (append-nil front), k ∙ sym (append-nil back))
+one_end n front back last end a b false same h k =
+    (h.0 ∷ [], h.3, k.3 ∙ ap (λ (r : Reply). back ++ r ∷ []) (k.2.0 ∙ ap (λ z. end_reply z n) (sym (loaded_same last.stage end.stage same.stages)) ∙ sym h.2.0))
+
+-- what two runs of a script are
+record AreSameRuns (mode : Mode) (input : List ℕ) (a b : List Reply) : Type 0 where
+  pub front : List Reply
+  pub back : List Reply
+  pub tail : List Reply
+  pub alike : AreAlike mode fresh 0 (lines_of input) front back
+  pub left : a ≡ front ++ tail
+  pub right : b ≡ back ++ tail
+
+one_script : (mode : Mode) (input : List ℕ) (a b : List Reply) → AreReplies mode input a → AreReplies mode input b → AreSameRuns mode input a b
+one_script mode input a b h k =
+    let n = length (lines_of input) in
+    let one = one_run mode fresh fresh 0 (lines_of input) h.0 k.0 h.1 k.1 tt (record { stages = equal stage.Field; refusals = refl; ended = refl }) h.2 k.2 in
+    let again : MatchBool (rests mode h.1) (b ≡ k.0) ((r : Reply) × (done : State) × RepliesAtEnd k.1 n r done × (b ≡ k.0 ++ r ∷ [])) =
+    subst (λ z. MatchBool z (b ≡ k.0) ((r : Reply) × (done : State) × RepliesAtEnd k.1 n r done × (b ≡ k.0 ++ r ∷ []))) (sym (rests_same mode h.1 k.1 one.1)) k.3 in
+    let end = one_end n h.0 k.0 h.1 k.1 a b (rests mode h.1) one.1 h.3 again in
+    record { front = h.0; back = k.0; tail = end.0; alike = one.0; left = end.1; right = end.2 }
+
+-- ---- kinds, and so the status
+
+kind_of_alike : (s : State) (bytes : List ℕ) (a b : Reply) → (a ≡ b) ⊎ AreForms s bytes a b → a.kind ≡ b.kind
+kind_of_alike s bytes a b (inl same) = ap (λ (r : Reply). r.kind) same
+kind_of_alike s bytes a b (inr forms) = forms.kinds.0 ∙ sym forms.kinds.1
+
+has_alike : (test : Kind → Bool) (mode : Mode) (s : State) (n : ℕ) (lines : List (List ℕ)) (a b : List Reply) → AreAlike mode s n lines a b → has test a ≡ has test b
+has_alike test mode s n [] a b h = ap (has test) (h.0 ∙ sym h.1)
+has_alike test mode s n (bytes ∷ lines) a b h = by_rest (rests mode s) h (λ next xs ys on. has_alike test mode next (n + 1) lines xs ys on) where
+  by_rest : (rest : Bool) → MatchBool rest ((a ≡ []) × (b ≡ []))
+      ((x : Reply) × (y : Reply) × (next : State) × (xs : List Reply) × (ys : List Reply) × Replies s (n + 1) bytes x next × ((x ≡ y) ⊎ AreForms s bytes x y)
+      × (a ≡ x ∷ xs) × (b ≡ y ∷ ys) × AreAlike mode next (n + 1) lines xs ys)
+      → ((next : State) (xs ys : List Reply) → AreAlike mode next (n + 1) lines xs ys → has test xs ≡ has test ys) → has test a ≡ has test b
+  by_rest true h on = ap (has test) (h.0 ∙ sym h.1)
+  by_rest false h on =
+      ap (has test) h.7 ∙ ap₂ (λ (k : Kind) (rest : Bool). test k || rest) (kind_of_alike s bytes h.0 h.1 h.6) (on h.2 h.3 h.4 h.9) ∙ sym (ap (has test) h.8)
+
+has_same : (test : Kind → Bool) (mode : Mode) (input : List ℕ) (a b : List Reply) → AreSameRuns mode input a b → has test a ≡ has test b
+has_same test mode input a b runs =
+    ap (has test) runs.left ∙ has-append test runs.front runs.tail ∙ ap (λ z. z || has test runs.tail) (has_alike test mode fresh 0 (lines_of input) runs.front runs.back runs.alike)
+    ∙ sym (has-append test runs.back runs.tail) ∙ sym (ap (has test) runs.right)
+
+status_same : (mode : Mode) (input : List ℕ) (a b : List Reply) → AreSameRuns mode input a b → status_of a ≡ status_of b
+status_same mode input a b runs =
+    ap₂ (λ (fatal : Bool) (refused : Bool). cond fatal LoadRefused (cond refused Refused Done)) (has_same is_fatal mode input a b runs) (has_same is_refused mode input a b runs)
+
+-- two outputs of a script are the same but for forms, and have one status
+pub one_output_up_to_forms : OneOutputUpToForms
+one_output_up_to_forms mode input out other status status' h k =
+    let runs = one_script mode input h.0 k.0 h.1 k.1 in (
+      (runs.front, runs.back, runs.tail, runs.alike, h.2 ∙ ap bytes_of runs.left, k.2 ∙ ap bytes_of runs.right),
+      h.3 ∙ status_same mode input h.0 k.0 runs ∙ sym k.3,
+    )
+
+-- ---- without forms
+
+no_forms : (s : State) (bytes : List ℕ) (a b : Reply) → AsksNoForm bytes → (a ≡ b) ⊎ AreForms s bytes a b → a ≡ b
+no_forms s bytes a b none (inl same) = same
+no_forms s bytes a b none (inr forms) = absurd (neither forms.says) where
+  neither : SaysLine s bytes (line.Form forms.word) ⊎ SaysLine s bytes (line.Collect forms.word) → ⊥
+  neither (inl says) = (none s forms.word).0 says
+  neither (inr says) = (none s forms.word).1 says
+
+equal_alike : (mode : Mode) (s : State) (n : ℕ) (lines : List (List ℕ)) (a b : List Reply) → AllByRecursion AsksNoForm lines → AreAlike mode s n lines a b → a ≡ b
+equal_alike mode s n [] a b none h = h.0 ∙ sym h.1
+equal_alike mode s n (bytes ∷ lines) a b none h = by_rest (rests mode s) h (λ next xs ys on. equal_alike mode next (n + 1) lines xs ys none.1 on) where
+  by_rest : (rest : Bool) → MatchBool rest ((a ≡ []) × (b ≡ []))
+      ((x : Reply) × (y : Reply) × (next : State) × (xs : List Reply) × (ys : List Reply) × Replies s (n + 1) bytes x next × ((x ≡ y) ⊎ AreForms s bytes x y)
+      × (a ≡ x ∷ xs) × (b ≡ y ∷ ys) × AreAlike mode next (n + 1) lines xs ys)
+      → ((next : State) (xs ys : List Reply) → AreAlike mode next (n + 1) lines xs ys → xs ≡ ys) → a ≡ b
+  by_rest true h on = h.0 ∙ sym h.1
+  by_rest false h on = h.7 ∙ ap₂ (λ (r : Reply) (z : List Reply). r ∷ z) (no_forms s bytes h.0 h.1 none.0 h.6) (on h.2 h.3 h.4 h.9) ∙ sym h.8
+
+-- a script without lines `form` and `collect` has one output alone
+pub one_output_without_forms : OneOutputWithoutForms
+one_output_without_forms mode input out other status status' none h k =
+    let runs = one_script mode input h.0 k.0 h.1 k.1 in
+    let same : h.0 ≡ k.0 = runs.left ∙ ap (λ (z : List Reply). z ++ runs.tail) (equal_alike mode fresh 0 (lines_of input) runs.front runs.back none runs.alike) ∙ sym runs.right in
+    (h.2 ∙ ap bytes_of same ∙ sym k.2, h.3 ∙ ap status_of same ∙ sym k.3)

@@ -9,7 +9,7 @@ use Rattle.lie_session.specs.declared.output.WriteStop.{WriteStop}
 use Rattle.lie_session.specs.declared.output.WriteStop.TheVariants.{Fault as WriteFailed, NoMemory as WriteMemory}
 use Rattle.lie_session.specs.declared.status.Status.TheVariants.{Done, Refused, LoadRefused}
 use Rattle.lie_session.specs.Lines.{lines_of}
-use Rattle.lie_session.specs.State.{State, fresh, ended_status}
+use Rattle.lie_session.specs.State.{State, fresh, is_loaded, ended_status}
 use Rattle.lie_session.specs.Replies.{Replies, RepliesAtEnd}
 use Rattle.lie_session.specs.Output.{rests, RepliesTo, AreReplies, bytes_of, IsOutput, BeginsOutput}
 use Rattle.lie_session.specs.Runs.{GrewBy}
@@ -194,4 +194,4 @@ chosen_status mode input old new true false h = h
 chosen_status mode input old new false b h = h
 
 pub replied_status : (mode : Mode) (input : List ℕ) (old new : Option (List ℕ)) (s : State) → GrewBy old new (λ out. IsOutput mode input out (ended_status s)) → Replied mode old input new (ended_status s)
-replied_status mode input old new s h = chosen_status mode input old new s.loaded (nat_eq s.refusals 0) h
+replied_status mode input old new s h = chosen_status mode input old new (is_loaded s.stage) (nat_eq s.refusals 0) h

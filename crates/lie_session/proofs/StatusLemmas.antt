@@ -3,14 +3,10 @@ use Rattle.std.proofs.Common.{◌≡◌, ◌≢◌, ℕ, ◌+◌, Bool, true, fa
 use Rattle.std.specs.Prelude.{not, nat_eq}
 use Rattle.std.specs.Bool.{MatchBool}
 use Rattle.std.proofs.lemmas.Bool.{false≢true}
-use Rattle.lie_datum.specs.RootList.{RootDatum, IsLoaded}
-use Rattle.lie_field.specs.FiniteField.{FiniteField}
-use Rattle.lie_field.specs.Faults.{IsWithinLimit}
-use Rattle.std.specs.Option.{IfSome}
 use Rattle.lie_script.specs.Texts.{name_of, refusal}
 use Rattle.lie_script.specs.declared.faults.FaultName.TheVariants as fault
-use Rattle.lie_session.specs.State.{State, fresh, whole, ended_status}
-use Rattle.lie_session.specs.Replies.{next_count, Replies, RepliesAtEnd}
+use Rattle.lie_session.specs.State.{State, fresh, is_loaded, ended_status}
+use Rattle.lie_session.specs.Replies.{next_count, over, Replies, RepliesAtEnd}
 use Rattle.lie_session.specs.Changes.{Changes}
 use Rattle.lie_session.specs.Output.{rests, RepliesTo, has, is_fatal, is_refused, status_of}
 use Rattle.lie_session.specs.declared.mode.Mode.{Mode}
@@ -19,12 +15,12 @@ use Rattle.lie_session.specs.declared.reply.Kind.{Kind}
 use Rattle.lie_session.specs.declared.reply.Kind.TheVariants as kind
 use Rattle.lie_session.specs.declared.reply.Reply.{Reply}
 use Rattle.lie_session.specs.declared.status.Status.TheVariants.{Done, Refused, LoadRefused}
-use Rattle.lie_session.proofs.ChangeLemmas.{changes_from, sound_from, IsSoundState}
+use Rattle.lie_session.proofs.ChangeLemmas.{changes_from}
 
 -- a session that goes on is not ended
 pub live_from : (mode : Mode) (s : State) → rests mode s ≡ false → s.ended ≡ false
 live_from Run s on = on
-live_from Check s on = neither s.ended s.loaded on where
+live_from Check s on = neither s.ended (is_loaded s.stage) on where
   neither : (a b : Bool) → (a || b) ≡ false → a ≡ false
   neither true b h = absurd (false≢true (sym h))
   neither false b h = refl
@@ -32,7 +28,7 @@ live_from Check s on = neither s.ended s.loaded on where
 -- an ended session rests
 pub rests_ended : (mode : Mode) (s : State) → s.ended ≡ true → rests mode s ≡ true
 rests_ended Run s over = over
-rests_ended Check s over = ap (λ b. b || s.loaded) over
+rests_ended Check s over = ap (λ b. b || is_loaded s.stage) over
 
 -- the next line of a session that goes on
 pub record Begun (mode : Mode) (s : State) (n : ℕ) (line : List ℕ) (lines : List (List ℕ)) (replies : List Reply) (last : State) : Type 0 where
@@ -65,7 +61,7 @@ ended_none mode s n (line ∷ lines) replies last over h = over_so (rests mode s
 -- what the kinds of the replies tell of the last state
 pub record Tells (s : State) (replies : List Reply) (last : State) : Type 0 where
   pub fatal : has is_fatal replies ≡ last.ended
-  pub unloaded : last.ended ≡ true → last.loaded ≡ false
+  pub unloaded : last.ended ≡ true → is_loaded last.stage ≡ false
   pub refused : (has is_refused replies || not (nat_eq s.refusals 0)) ≡ not (nat_eq last.refusals 0)
 
 counted : (n : ℕ) → true ≡ not (nat_eq (next_count n) 0)
@@ -89,16 +85,16 @@ tells_on k s reply next others last is none counts t = record {
   moved true false c = refl
   moved false b c = refl
 
-tells_fatal : (s : State) (reply : Reply) (next : State) (others : List Reply) (last : State) → reply.kind ≡ kind.Fatal → s.loaded ≡ false → next ≡ record s { ended = true }
+tells_fatal : (s : State) (reply : Reply) (next : State) (others : List Reply) (last : State) → reply.kind ≡ kind.Fatal → next ≡ over s
     → (others ≡ []) × (last ≡ next) → Tells s (reply ∷ others) last
-tells_fatal s reply next others last is unloaded next_is over =
-    let end : last ≡ record s { ended = true } = over.1 ∙ next_is in
+tells_fatal s reply next others last is next_is done =
+    let end : last ≡ over s = done.1 ∙ next_is in
     record {
       fatal = ap (λ k. is_fatal k || has is_fatal others) is ∙ sym (ap (λ (t : State). t.ended) end);
-      unloaded = λ _. ap (λ (t : State). t.loaded) end ∙ unloaded;
+      unloaded = λ _. ap (λ (t : State). is_loaded t.stage) end;
       refused =
           ap (λ k. (is_refused k || has is_refused others) || not (nat_eq s.refusals 0)) is
-          ∙ ap (λ (z : List Reply). has is_refused z || not (nat_eq s.refusals 0)) over.0 ∙ sym (ap (λ (t : State). not (nat_eq t.refusals 0)) end);
+          ∙ ap (λ (z : List Reply). has is_refused z || not (nat_eq s.refusals 0)) done.0 ∙ sym (ap (λ (t : State). not (nat_eq t.refusals 0)) end);
     }
 
 tells_rest : (s : State) (replies : List Reply) (last : State) → s.ended ≡ false → (replies ≡ []) × (last ≡ s) → Tells s replies last
@@ -119,7 +115,7 @@ tells mode s n (line ∷ lines) replies last live h =
           tells_on kind.Refused s reply next others last is refl (counted s.refusals ∙ ap (λ (t : State). not (nat_eq t.refusals 0)) (sym c.1))
           (on (ap (λ (t : State). t.ended) c.1 ∙ live))
       by_kind kind.Fatal reply next others is c on over =
-          tells_fatal s reply next others last is c.0 c.1 (over (ap (λ (t : State). t.ended) c.1))
+          tells_fatal s reply next others last is c.1 (over (ap (λ (t : State). t.ended) c.1))
 
       by_rest : (rest : Bool) → rests mode s ≡ rest → ((next : State) (others : List Reply) → next.ended ≡ false → RepliesTo mode next (n + 1) lines others last → Tells next others last) → Tells s replies last
       by_rest true is on = tells_rest s replies last live (ended_none mode s n (line ∷ lines) replies last is h)
@@ -129,7 +125,7 @@ tells mode s n (line ∷ lines) replies last live h =
           (by_kind b.reply.kind b.reply b.next b.others refl (changes_from s (n + 1) line b.reply b.next b.replied)
           (λ goes. on b.next b.others goes b.on) (λ over. ended_none mode b.next (n + 1) lines b.others last (rests_ended mode b.next over) b.on))
 
-has-append : (test : Kind → Bool) (a b : List Reply) → has test (a ++ b) ≡ (has test a || has test b)
+pub has-append : (test : Kind → Bool) (a b : List Reply) → has test (a ++ b) ≡ (has test a || has test b)
 has-append test [] b = refl
 has-append test (reply ∷ a) b = ap (λ z. test reply.kind || z) (has-append test a b) ∙ regroup (test reply.kind) (has test a) (has test b) where
   regroup : (x y z : Bool) → (x || (y || z)) ≡ ((x || y) || z)
@@ -142,7 +138,7 @@ other b k is = ap (λ z. cond z Refused Done) is ∙ swapped (nat_eq k 0) where
   swapped true = refl
   swapped false = refl
 
-rested : (ended loaded : Bool) (replies : List Reply) (last : State) → last.ended ≡ ended → last.loaded ≡ loaded → (ended || loaded) ≡ true → Tells fresh replies last → status_of replies ≡ ended_status last
+rested : (ended loaded : Bool) (replies : List Reply) (last : State) → last.ended ≡ ended → is_loaded last.stage ≡ loaded → (ended || loaded) ≡ true → Tells fresh replies last → status_of replies ≡ ended_status last
 rested true loaded replies last over is rest t =
     ap (λ b. cond b LoadRefused (cond (has is_refused replies) Refused Done)) (t.fatal ∙ over)
     ∙ sym (ap (λ b. cond b (cond (nat_eq last.refusals 0) Done Refused) LoadRefused) (t.unloaded over))
@@ -155,14 +151,14 @@ rested false true replies last live is rest t =
       or_false false = refl
 rested false false replies last live is rest t = absurd (false≢true rest)
 
-either : (mode : Mode) (s : State) → rests mode s ≡ true → (s.ended || s.loaded) ≡ true
-either Run s rest = ap (λ b. b || s.loaded) rest
+either : (mode : Mode) (s : State) → rests mode s ≡ true → (s.ended || is_loaded s.stage) ≡ true
+either Run s rest = ap (λ b. b || is_loaded s.stage) rest
 either Check s rest = rest
 
 -- after the last reply of a session that rests
 pub status-ended : (mode : Mode) (lines : List (List ℕ)) (replies : List Reply) (last : State) → RepliesTo mode fresh 0 lines replies last → rests mode last ≡ true → status_of replies ≡ ended_status last
 status-ended mode lines replies last h rest =
-    rested last.ended last.loaded replies last refl refl (either mode last rest) (tells mode fresh 0 lines replies last refl h)
+    rested last.ended (is_loaded last.stage) replies last refl refl (either mode last rest) (tells mode fresh 0 lines replies last refl h)
 
 chosen_kind : Bool → Kind
 chosen_kind true = kind.Silent
@@ -173,7 +169,7 @@ pub status-end : (mode : Mode) (lines : List (List ℕ)) (front : List Reply) (l
     → RepliesAtEnd last n reply over → status_of (front ++ reply ∷ []) ≡ ended_status last
 status-end mode lines front last n reply over h live r =
     let t = tells mode fresh 0 lines front last refl h in
-    by_loaded last.loaded refl (ap (λ (k : Reply). k.kind) r.0) t where
+    by_loaded (is_loaded last.stage) refl (ap (λ (k : Reply). k.kind) r.0) t where
       or_false : (b : Bool) → (b || false) ≡ b
       or_false true = refl
       or_false false = refl
@@ -182,8 +178,8 @@ status-end mode lines front last n reply over h live r =
       or_true true = refl
       or_true false = refl
 
-      by_loaded : (loaded : Bool) → last.loaded ≡ loaded
-          → reply.kind ≡ (let k : Reply = cond last.loaded (record { kind = kind.Silent; bytes = [] }) (record { kind = kind.Fatal; bytes = refusal n (name_of fault.End) [] }) in k.kind)
+      by_loaded : (loaded : Bool) → is_loaded last.stage ≡ loaded
+          → reply.kind ≡ (let k : Reply = cond (is_loaded last.stage) (record { kind = kind.Silent; bytes = [] }) (record { kind = kind.Fatal; bytes = refusal n (name_of fault.End) [] }) in k.kind)
           → Tells fresh front last → status_of (front ++ reply ∷ []) ≡ ended_status last
       by_loaded true is k t =
           let silent : reply.kind ≡ kind.Silent = k ∙ ap (λ (b : Bool). let z : Reply = cond b (record { kind = kind.Silent; bytes = [] }) (record { kind = kind.Fatal; bytes = refusal n (name_of fault.End) [] }) in z.kind) is in
@@ -212,23 +208,10 @@ kept_to P kept mode s n (line ∷ lines) replies last there h = by_rest (rests m
   by_rest true h on = subst P (sym h.1) there
   by_rest false h on = on h.1 h.2 (kept s (n + 1) line h.0 h.1 there h.3) h.5
 
--- a script keeps the session sound
-sound_to : (mode : Mode) (lines : List (List ℕ)) (replies : List Reply) (s : State) → RepliesTo mode fresh 0 lines replies s → IsSoundState s
-sound_to mode lines replies s h = kept_to IsSoundState sound_from mode fresh 0 lines replies s (record { sized = tt; loaded = tt }) h
-
--- each field that a script brings is within the limits
-pub fields_are_sized : (mode : Mode) (lines : List (List ℕ)) (replies : List Reply) (s : State) (F : FiniteField) → RepliesTo mode fresh 0 lines replies s → s.field ≡ Some F → IsWithinLimit F.given
-fields_are_sized mode lines replies s F h is =
-    subst (λ o. IfSome o (λ (F : FiniteField). IsWithinLimit F.given)) is (sound_to mode lines replies s h).sized
-
--- each datum that a script brings meets the axioms
-pub data_are_loaded : (mode : Mode) (lines : List (List ℕ)) (replies : List Reply) (s : State) (D : RootDatum) → RepliesTo mode fresh 0 lines replies s → whole s.datum ≡ Some D → IsLoaded D
-data_are_loaded mode lines replies s D h is = subst (λ o. IfSome o IsLoaded) is (sound_to mode lines replies s h).loaded
-
 -- ---- before `load` nothing is counted
 
 -- a line before `load` is not counted
-pub uncounted : (s : State) (n : ℕ) (bytes : List ℕ) (reply : Reply) (next : State) → s.loaded ≡ false → s.refusals ≡ 0 → Replies s n bytes reply next → next.refusals ≡ 0
+pub uncounted : (s : State) (n : ℕ) (bytes : List ℕ) (reply : Reply) (next : State) → is_loaded s.stage ≡ false → s.refusals ≡ 0 → Replies s n bytes reply next → next.refusals ≡ 0
 uncounted s n bytes reply next early none h = by_kind reply.kind (changes_from s n bytes reply next h) where
   by_kind : (k : Kind) → Changes s k next → next.refusals ≡ 0
   by_kind kind.Silent c = c.1 ∙ none
@@ -237,15 +220,15 @@ uncounted s n bytes reply next early none h = by_kind reply.kind (changes_from s
   by_kind kind.Fatal c = ap (λ (t : State). t.refusals) c.1 ∙ none
 
 -- a check that goes on has no group
-pub check_unloaded : (s : State) → rests Check s ≡ false → s.loaded ≡ false
-check_unloaded s on = second s.ended s.loaded on where
+pub check_unloaded : (s : State) → rests Check s ≡ false → is_loaded s.stage ≡ false
+check_unloaded s on = second s.ended (is_loaded s.stage) on where
   second : (a b : Bool) → (a || b) ≡ false → b ≡ false
   second true b h = absurd (false≢true (sym h))
   second false b h = h
 
 -- where nothing is counted the status is not `Refused`
 pub not_refused : (s : State) → s.refusals ≡ 0 → ended_status s ≢ Refused
-not_refused s none = by_loaded s.loaded (nat_eq s.refusals 0) (ap (λ k. nat_eq k 0) none) where
+not_refused s none = by_loaded (is_loaded s.stage) (nat_eq s.refusals 0) (ap (λ k. nat_eq k 0) none) where
   by_loaded : (a b : Bool) → b ≡ true → cond a (cond b Done Refused) LoadRefused ≢ Refused
   by_loaded true true is e = absurd cc
   by_loaded true false is e = absurd (false≢true is)

@@ -1,11 +1,12 @@
 -- The definitions at work: lines, the lines of a datum, what is awaited, and what the command line asks for.
 use Rattle.std.specs.Prelude.{◌≡◌, refl, true, false, pos, [], ◌∷◌, codes, Some, None}
+use Rattle.lie_field.specs.FiniteField.{FiniteField}
 use Rattle.lie_script.specs.declared.sizes.Wants.TheVariants as wants
 use Rattle.lie_session.specs.DatumLines.{DatumLines, opened, with_root, with_coroot, is_whole}
 use Rattle.lie_session.specs.Lines.{lines_of}
 use Rattle.lie_session.specs.Runs.{mode_of}
-use Rattle.lie_session.specs.State.{fresh, stage_wants, wants_of}
-use Rattle.lie_session.specs.declared.datum.DatumStage.TheVariants as datum
+use Rattle.lie_session.specs.State.{fresh, wants_of}
+use Rattle.lie_session.specs.declared.stage.Stage.TheVariants as stage
 use Rattle.lie_session.specs.declared.mode.Mode.TheVariants.{Check}
 
 -- one CR is dropped, an empty line counts, and an LF at the end starts no line
@@ -13,18 +14,18 @@ three_lines : lines_of (codes "load\r\n\nform 1\r\r\n") ≡ codes "load" ∷ [] 
 three_lines = refl
 
 -- the field comes first
-field_first : wants_of fresh ≡ wants.Field
+field_first : wants_of fresh.stage ≡ wants.Field
 field_first = refl
 
 -- the lines of SL2
 abbrev rooted : DatumLines
 rooted = with_root (opened 1 1) (pos 2 ∷ [])
 
-root_awaited : stage_wants (datum.Reading (opened 1 1)) false ≡ wants.Root
-root_awaited = refl
+root_awaited : (F : FiniteField) → wants_of (stage.Lines F (opened 1 1)) ≡ wants.Root
+root_awaited F = refl
 
-coroot_awaited : stage_wants (datum.Reading rooted) false ≡ wants.Coroot
-coroot_awaited = refl
+coroot_awaited : (F : FiniteField) → wants_of (stage.Lines F rooted) ≡ wants.Coroot
+coroot_awaited F = refl
 
 coroot_last : is_whole (with_coroot rooted (pos 1 ∷ [])) ≡ true
 coroot_last = refl

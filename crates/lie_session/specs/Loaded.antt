@@ -2,78 +2,66 @@
 -- Source: Steinberg, Lectures on Chevalley Groups, 2 (lattices with divided powers); Carter, Simple Groups of Lie Type, 4.2 (structure constants) and chapter 6 (n_i).
 -- Own: the statements.
 --
---   N_rs                     some table of constants loads      LoadsConstants
---   eta_is                   read off the adjoint module        AreTestedSigns
---   the braid values         all are 1                          HasBraids
---   a built module           the adjoint module, or that of the orbit of a minuscule weight
-use Rattle.std.specs.Prelude.{◌≡◌, ◌⊎◌, ◌↔◌, ℕ, ℤ, true, false, List, [], length, Some, Ok}
+--   the frame of the group   IsFrameOf             the datum meets the axioms, its constants load, its signs are those of the adjoint module,
+--                                                  all as they should be, and each braid value is 1
+--   a built module           IsBuilt               the adjoint module, or that of the orbit of a minuscule weight
+use Rattle.std.specs.Prelude.{◌≡◌, ◌⊎◌, ◌↔◌, ℕ, ℤ, List, length, Some, Ok}
 use Rattle.std.specs.List.{AllByRecursion}
-use Rattle.lie_audit.specs.SignAnswers.{AreTestedSigns}
+use Rattle.std.specs.Option.{IfSome}
 use Rattle.lie_audit.specs.WordMatrix.{word_matrix, IsWordFor}
 use Rattle.lie_const.specs.Adjoint.{IsAdjointOf}
-use Rattle.lie_letters.specs.Braids.{HasBraids}
-use Rattle.lie_const.specs.ConstantTables.{ConstantTable, LoadsConstants}
 use Rattle.lie_const.specs.Modules.{Module}
-use Rattle.lie_const.specs.Signs.{SignTable, eta_of}
-use Rattle.lie_datum.specs.RootList.{RootDatum, IsLoaded}
-use Rattle.lie_field.specs.FiniteField.{FiniteField}
+use Rattle.lie_const.specs.Signs.{eta_of}
 use Rattle.lie_field.specs.Faults.{IsWithinLimit}
+use Rattle.lie_group.specs.Loading.{IsFrameOf}
+use Rattle.lie_letters.specs.SignedFrames.{SignedFrame}
 use Rattle.lie_letters.specs.declared.letter.Letter.{Letter}
 use Rattle.lie_reply.specs.Modules.{matrix_text}
 use Rattle.lie_script.specs.Reading.{reads}
 use Rattle.lie_script.specs.declared.line.Line.TheVariants as line
 use Rattle.lie_weight.specs.OrbitFaults.{LoadsOrbit}
 use Rattle.lie_session.specs.DatumLines.{padded}
+use Rattle.lie_session.specs.Held.{LoadedGroup}
 use Rattle.lie_session.specs.Named.{module_of, listed_of, HasDistinctNames}
 use Rattle.lie_session.specs.Output.{RepliesTo}
-use Rattle.lie_session.specs.Replies.{Answers, Replies}
-use Rattle.lie_session.specs.State.{State, fresh, whole, wants_of, sizes_of}
+use Rattle.lie_session.specs.Replies.{Accepts, Replies}
+use Rattle.lie_session.specs.State.{State, fresh, group_of, modules_of, wants_of, sizes_of}
 use Rattle.lie_session.specs.declared.mode.Mode.{Mode}
 use Rattle.lie_session.specs.declared.reply.Reply.{Reply}
+use Rattle.lie_session.specs.declared.stage.Stage.TheVariants as stage
 
--- the module is the adjoint module of the datum, or that of the orbit of a weight by the signs
-abbrev pub IsBuilt : RootDatum → SignTable → Module → Type 0
-IsBuilt D t v = IsAdjointOf D v ⊎ ((w : List ℤ) × (length w ≡ D.base.dim) × LoadsOrbit D (eta_of t) (padded w) (Ok v))
+-- the module is the adjoint module of the datum of the frame, or that of the orbit of a weight by its signs
+abbrev pub IsBuilt : SignedFrame → Module → Type 0
+IsBuilt f v = IsAdjointOf f.datum v ⊎ ((w : List ℤ) × (length w ≡ f.datum.base.dim) × LoadsOrbit f.datum (eta_of f.signs) (padded w) (Ok v))
 
--- A group is loaded: of a field within the limits and a datum that meets the axioms, with constants; its signs are those of the
--- adjoint module, all as they should be, and their braid values are 1. Each named module is built from them, its name finds it, and no two
--- have one name.
-pub record HasGroup (s : State) : Type 0 where
-  pub field : FiniteField
-  pub datum : RootDatum
-  pub signs : SignTable
-  pub adjoint : Module
-  pub field_is : s.field ≡ Some field
-  pub datum_is : whole s.datum ≡ Some datum
-  pub signs_are : s.signs ≡ Some signs
-  pub sized : IsWithinLimit field.given
-  pub axioms : IsLoaded datum
-  pub constants : (c : ConstantTable) × LoadsConstants datum (Ok c)
-  pub is_adjoint : IsAdjointOf datum adjoint
-  pub tested : AreTestedSigns datum adjoint signs
-  pub braids : HasBraids datum (eta_of signs)
-  pub built : AllByRecursion (λ e. IsBuilt datum signs e.1) s.modules
-  pub found : AllByRecursion (λ e. module_of s.modules e.0 ≡ Some e.1) s.modules
-  pub distinct : HasDistinctNames s.modules
+-- A group is loaded: its frame is that of a field within the limits and a datum. Each named module is built from the frame, its name finds
+-- it, and no two have one name.
+pub record HasGroup (g : LoadedGroup) : Type 0 where
+  pub sized : IsWithinLimit g.frame.field.given
+  pub frame : IsFrameOf g.frame.field g.frame.datum g.frame
+  pub built : AllByRecursion (λ e. IsBuilt g.frame e.1) g.modules
+  pub found : AllByRecursion (λ e. module_of g.modules e.0 ≡ Some e.1) g.modules
+  pub distinct : HasDistinctNames g.modules
 
--- in each state that a script leads to, `loaded` says that there is a group, and before it no module has a name
+-- in each state that a script leads to, a loaded group is one
 abbrev pub GroupsAreLoaded : Type 0
 GroupsAreLoaded =
-    (mode : Mode) (lines : List (List ℕ)) (replies : List Reply) (s : State) → RepliesTo mode fresh 0 lines replies s
-    → (s.loaded ≡ true → HasGroup s) × (s.loaded ≡ false → s.modules ≡ [])
+    (mode : Mode) (lines : List (List ℕ)) (replies : List Reply) (s : State) → RepliesTo mode fresh 0 lines replies s → IfSome (group_of s.stage) HasGroup
 
 -- the name is that of a built module of a loaded group, and w is a word of the group; the reply to the line is an answer with the rows of
 -- the product of the matrices of the letters on the module, over the field, and leaves the state as it is
 pub record AnswersProduct (s : State) (n : ℕ) (bytes name : List ℕ) (w : List Letter) : Type 0 where
-  pub group : HasGroup s
-  pub word : IsWordFor group.field group.datum w
+  pub group : LoadedGroup
+  pub stage_is : s.stage ≡ stage.Loaded group
+  pub loaded : HasGroup group
+  pub word : IsWordFor group.frame.field group.frame.datum w
   pub acted_on : Module
-  pub named : module_of s.modules name ≡ Some acted_on
-  pub built : IsBuilt group.datum group.signs acted_on
-  pub answers : (reply : Reply) (next : State) → Replies s n bytes reply next ↔ Answers s (matrix_text (word_matrix group.field acted_on w)) reply next
+  pub named : module_of group.modules name ≡ Some acted_on
+  pub built : IsBuilt group.frame acted_on
+  pub answers : (reply : Reply) (next : State) → Replies s n bytes reply next ↔ Accepts s (Some (matrix_text (word_matrix group.frame.field acted_on w))) reply next
 
 -- in each state that a script leads to, each line that asks for the matrix of a word is answered so
 abbrev pub MatricesAreProducts : Type 0
 MatricesAreProducts =
     (mode : Mode) (lines : List (List ℕ)) (replies : List Reply) (s : State) (n : ℕ) (bytes name : List ℕ) (w : List Letter) → RepliesTo mode fresh 0 lines replies s
-    → reads (wants_of s) (sizes_of s) (listed_of s.modules) bytes ≡ Ok (line.Matrix name w) → AnswersProduct s n bytes name w
+    → reads (wants_of s.stage) (sizes_of s.stage) (listed_of (modules_of s.stage)) bytes ≡ Ok (line.Matrix name w) → AnswersProduct s n bytes name w

@@ -7,7 +7,7 @@ use Rattle.lie_datum.specs.RootList.{RootDatum, IsLoaded}
 use Rattle.lie_field.specs.FiniteField.{FiniteField}
 use Rattle.lie_field.specs.Faults.{IsWithinLimit}
 use Rattle.lie_session.specs.Lines.{lines_of}
-use Rattle.lie_session.specs.State.{State, fresh, whole}
+use Rattle.lie_session.specs.State.{State, fresh, field_of, datum_of, is_loaded}
 use Rattle.lie_session.specs.Replies.{Replies, RepliesAtEnd}
 use Rattle.lie_session.specs.declared.mode.Mode.{Mode}
 use Rattle.lie_session.specs.declared.mode.Mode.TheVariants.{Run, Check}
@@ -20,7 +20,7 @@ use Rattle.lie_session.specs.declared.status.Status.TheVariants.{Done, Refused, 
 -- the session replies to no more lines: it is ended, or only the lines up to and with `load` were asked for
 abbrev pub rests : Mode → State → Bool
 rests Run s = s.ended
-rests Check s = s.ended || s.loaded
+rests Check s = s.ended || is_loaded s.stage
 
 -- From a state in which n lines were read, these are replies to the lines, in order, and last is the state after them.
 -- A session that rests replies to no more.
@@ -81,20 +81,14 @@ abbrev pub BeginsOutput : Mode → List ℕ → List ℕ → Type 0
 BeginsOutput mode input out =
     (replies : List Reply) × (rest : List ℕ) × (AreFirstReplies mode input replies ⊎ AreReplies mode input replies) × (bytes_of replies ≡ out ++ rest)
 
--- a script has one output alone, with one status
-abbrev pub OneOutput : Type 0
-OneOutput =
-    (mode : Mode) (input out other : List ℕ) (status status' : Status) → IsOutput mode input out status → IsOutput mode input other status'
-    → (out ≡ other) × (status ≡ status')
-
 -- each field that a script brings is within the limits
 abbrev pub FieldsAreSized : Type 0
 FieldsAreSized =
-    (mode : Mode) (lines : List (List ℕ)) (replies : List Reply) (s : State) (F : FiniteField) → RepliesTo mode fresh 0 lines replies s → s.field ≡ Some F
+    (mode : Mode) (lines : List (List ℕ)) (replies : List Reply) (s : State) (F : FiniteField) → RepliesTo mode fresh 0 lines replies s → field_of s.stage ≡ Some F
     → IsWithinLimit F.given
 
 -- each datum that a script brings meets the axioms
 abbrev pub DataAreLoaded : Type 0
 DataAreLoaded =
     (mode : Mode) (lines : List (List ℕ)) (replies : List Reply) (s : State) (D : RootDatum) → RepliesTo mode fresh 0 lines replies s
-    → whole s.datum ≡ Some D → IsLoaded D
+    → datum_of s.stage ≡ Some D → IsLoaded D

@@ -1,7 +1,11 @@
 -- What a session holds between lines.
 -- Own.
+--
+--   a stage         what was accepted so far, and with it the kind of line that is awaited
+--   field_of        the field, once it was accepted
+--   datum_of        the datum, once all its lines were accepted
+--   group_of        the group, once it is loaded
 use Rattle.std.specs.Prelude.{ℕ, Bool, true, false, if◌then◌else◌, nat_eq, [], length, Option, Some, None}
-use Rattle.lie_const.specs.Signs.{SignTable}
 use Rattle.lie_datum.specs.RootDatum.{rank}
 use Rattle.lie_datum.specs.RootList.{RootDatum}
 use Rattle.lie_field.specs.FiniteField.{FiniteField}
@@ -10,24 +14,17 @@ use Rattle.lie_script.specs.declared.sizes.Sizes.{Sizes}
 use Rattle.lie_script.specs.declared.sizes.Wants.{Wants}
 use Rattle.lie_script.specs.declared.sizes.Wants.TheVariants as wants
 use Rattle.lie_session.specs.DatumLines.{datum_wants}
+use Rattle.lie_session.specs.Held.{LoadedGroup}
 use Rattle.lie_session.specs.Named.{Named}
-use Rattle.lie_session.specs.declared.datum.DatumStage.{DatumStage}
-use Rattle.lie_session.specs.declared.datum.DatumStage.TheVariants as datum
+use Rattle.lie_session.specs.declared.stage.Stage.{Stage}
+use Rattle.lie_session.specs.declared.stage.Stage.TheVariants as stage
 use Rattle.lie_session.specs.declared.status.Status.{Status}
 use Rattle.lie_session.specs.declared.status.Status.TheVariants.{Done, Refused, LoadRefused}
 
 -- a session between two lines
 pub record State : Type 0 where
-  -- the field, once it was accepted
-  pub field : Option FiniteField
-  -- the datum: its lines so far, or itself once they were accepted
-  pub datum : DatumStage
-  -- whether a group is loaded
-  pub loaded : Bool
-  -- the signs of the Weyl representatives, once a group is loaded
-  pub signs : Option SignTable
-  -- the named modules
-  pub modules : Named
+  -- what was accepted so far
+  pub stage : Stage
   -- the replies of kind `Refused`, at most the last value of u64
   pub refusals : ℕ
   -- whether no line is replied to any more
@@ -35,50 +32,63 @@ pub record State : Type 0 where
 
 -- a session that has read nothing
 abbrev pub fresh : State
-fresh = record { field = None; datum = datum.Missing; loaded = false; signs = None; modules = []; refusals = 0; ended = false }
+fresh = record { stage = stage.Field; refusals = 0; ended = false }
+
+-- the field, once it was accepted
+abbrev pub field_of : Stage → Option FiniteField
+field_of stage.Field = None
+field_of (stage.Datum F) = Some F
+field_of (stage.Lines F lines) = Some F
+field_of (stage.Load setting) = Some setting.field
+field_of (stage.Loaded g) = Some g.frame.field
 
 -- the datum, once all its lines were accepted
-abbrev pub whole : DatumStage → Option RootDatum
-whole datum.Missing = None
-whole (datum.Reading lines) = None
-whole (datum.Whole D) = Some D
+abbrev pub datum_of : Stage → Option RootDatum
+datum_of (stage.Load setting) = Some setting.datum
+datum_of (stage.Loaded g) = Some g.frame.datum
+datum_of _ = None
 
--- with a whole datum, `load` is awaited, and then commands
-abbrev pub load_wants : Bool → Wants
-load_wants false = wants.Load
-load_wants true = wants.Command
+-- the group, once it is loaded
+abbrev pub group_of : Stage → Option LoadedGroup
+group_of (stage.Loaded g) = Some g
+group_of _ = None
 
--- with a field, the datum is awaited
-abbrev pub stage_wants : DatumStage → Bool → Wants
-stage_wants datum.Missing loaded = wants.Datum
-stage_wants (datum.Reading lines) loaded = datum_wants lines
-stage_wants (datum.Whole D) loaded = load_wants loaded
+-- whether a group is loaded
+abbrev pub is_loaded : Stage → Bool
+is_loaded (stage.Loaded g) = true
+is_loaded _ = false
 
--- the field is awaited first
-abbrev pub wants_from : Option FiniteField → DatumStage → Bool → Wants
-wants_from None stage loaded = wants.Field
-wants_from (Some F) stage loaded = stage_wants stage loaded
+-- the named modules: before `load` no module has a name
+abbrev pub modules_of : Stage → Named
+modules_of (stage.Loaded g) = g.modules
+modules_of _ = []
 
--- what is awaited
-abbrev pub wants_of : State → Wants
-wants_of s = wants_from s.field s.datum s.loaded
+-- what is awaited: the field, the line `datum`, the simple roots and coroots, `load`, and then commands
+abbrev pub wants_of : Stage → Wants
+wants_of stage.Field = wants.Field
+wants_of (stage.Datum F) = wants.Datum
+wants_of (stage.Lines F lines) = datum_wants lines
+wants_of (stage.Load setting) = wants.Load
+wants_of (stage.Loaded g) = wants.Command
 
 -- the number of coordinates, 0 where there is none
-abbrev pub dim_of : DatumStage → ℕ
-dim_of datum.Missing = 0
-dim_of (datum.Reading lines) = lines.dim
-dim_of (datum.Whole D) = D.base.dim
+abbrev pub dim_of : Stage → ℕ
+dim_of (stage.Lines F lines) = lines.dim
+dim_of (stage.Load setting) = setting.datum.base.dim
+dim_of (stage.Loaded g) = g.frame.datum.base.dim
+dim_of _ = 0
 
 -- the number of simple roots, 0 where there is none
-abbrev pub rank_of : DatumStage → ℕ
-rank_of datum.Missing = 0
-rank_of (datum.Reading lines) = lines.rank
-rank_of (datum.Whole D) = rank D.base
+abbrev pub rank_of : Stage → ℕ
+rank_of (stage.Lines F lines) = lines.rank
+rank_of (stage.Load setting) = rank setting.datum.base
+rank_of (stage.Loaded g) = rank g.frame.datum.base
+rank_of _ = 0
 
 -- the number of positive roots, 0 where they aren't known
-abbrev pub count_of : DatumStage → ℕ
-count_of (datum.Whole D) = length D.positive
-count_of _ = 0
+abbrev pub count_of : Option RootDatum → ℕ
+count_of None = 0
+count_of (Some D) = length D.positive
 
 -- the number of elements, 0 where there is no field
 abbrev pub order_of : Option FiniteField → ℕ
@@ -86,9 +96,16 @@ order_of None = 0
 order_of (Some F) = order F.given
 
 -- the sizes that a line is read with
-abbrev pub sizes_of : State → Sizes
-sizes_of s = record { d = dim_of s.datum; l = rank_of s.datum; m = count_of s.datum; q = order_of s.field; dim = 0; loaded = s.loaded }
+abbrev pub sizes_of : Stage → Sizes
+sizes_of at = record {
+  d = dim_of at;
+  l = rank_of at;
+  m = count_of (datum_of at);
+  q = order_of (field_of at);
+  dim = 0;
+  loaded = is_loaded at;
+}
 
 -- the status that a state tells after the last reply
 abbrev pub ended_status : State → Status
-ended_status s = if s.loaded then (if nat_eq s.refusals 0 then Done else Refused) else LoadRefused
+ended_status s = if is_loaded s.stage then (if nat_eq s.refusals 0 then Done else Refused) else LoadRefused

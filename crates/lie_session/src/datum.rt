@@ -1,10 +1,7 @@
-//! The lines of a datum, and how far it is.
+//! The lines of a datum.
 ghost use Rattle.std.specs.Prelude.{◌≡◌, ◌≤◌, length, IfOk};
-ghost use Rattle.std.specs.Option.{option_copied};
 ghost use Rattle.lie_datum.specs.Load.{Loads};
 ghost use Rattle.lie_session.specs.DatumLines.{opened, padded as with_zeros, with_root, with_coroot, is_whole, base_of, datum_wants};
-ghost use Rattle.lie_session.specs.State.{whole};
-ghost use Rattle.lie_session.specs.Replies.{InDatum};
 
 use lie_datum::{Datum, DatumFault, Vector};
 use lie_script::Wants;
@@ -56,34 +53,22 @@ impl DatumLines {
         }
     }
 
-    /// One simple root more.
-    pub(crate) fn with_root(&self, alloc: Global, v: &[i128]) -> Result<DatumLines, AllocError>
+    /// The lines with one simple root more.
+    pub(crate) fn with_root(mut self, v: &[i128]) -> Result<DatumLines, AllocError>
         requires { length v.now ≤ 8 }
-        ensures { IfOk result (λ lines. lines ≡ with_root self.now v.now) }
+        ensures { IfOk result (λ lines. lines ≡ with_root self v.now) }
     {
-        let mut roots = Vec::from_slice(alloc, &self.roots)?;
-        roots.push(padded(v))?;
-        Ok(DatumLines {
-            d: self.d,
-            l: self.l,
-            roots,
-            coroots: Vec::from_slice(alloc, &self.coroots)?,
-        })
+        self.roots.push(padded(v))?;
+        Ok(self)
     }
 
-    /// One simple coroot more.
-    pub(crate) fn with_coroot(&self, alloc: Global, v: &[i128]) -> Result<DatumLines, AllocError>
+    /// The lines with one simple coroot more.
+    pub(crate) fn with_coroot(mut self, v: &[i128]) -> Result<DatumLines, AllocError>
         requires { length v.now ≤ 8 }
-        ensures { IfOk result (λ lines. lines ≡ with_coroot self.now v.now) }
+        ensures { IfOk result (λ lines. lines ≡ with_coroot self v.now) }
     {
-        let mut coroots = Vec::from_slice(alloc, &self.coroots)?;
-        coroots.push(padded(v))?;
-        Ok(DatumLines {
-            d: self.d,
-            l: self.l,
-            roots: Vec::from_slice(alloc, &self.roots)?,
-            coroots,
-        })
+        self.coroots.push(padded(v))?;
+        Ok(self)
     }
 
     /// The number of coordinates.
@@ -125,49 +110,5 @@ impl DatumLines {
         ensures { Loads (base_of self.now) result }
     {
         Datum::load(alloc, self.d, &self.roots, &self.coroots)
-    }
-}
-
-/// How far the datum is.
-#[derive(Drop)]
-pub(crate) enum DatumStage {
-    Missing,
-    Reading(DatumLines),
-    Whole(Datum),
-}
-
-impl DatumStage {
-    /// The lines with one simple root more.
-    pub(crate) fn with_root(&self, alloc: Global, v: &[i128]) -> Result<DatumLines, AllocError>
-        requires { InDatum self.now (λ before. length v.now ≡ before.dim) }
-        ensures { IfOk result (λ lines. InDatum self.now (λ before. lines ≡ with_root before v.now)) }
-    {
-        let DatumStage::Reading(lines) = self else {
-            unreachable!()
-        };
-        let _d = lines.dim();
-        lines.with_root(alloc, v)
-    }
-
-    /// The lines with one simple coroot more.
-    pub(crate) fn with_coroot(&self, alloc: Global, v: &[i128]) -> Result<DatumLines, AllocError>
-        requires { InDatum self.now (λ before. length v.now ≡ before.dim) }
-        ensures { IfOk result (λ lines. InDatum self.now (λ before. lines ≡ with_coroot before v.now)) }
-    {
-        let DatumStage::Reading(lines) = self else {
-            unreachable!()
-        };
-        let _d = lines.dim();
-        lines.with_coroot(alloc, v)
-    }
-
-    /// The datum, once all its lines were accepted.
-    pub(crate) fn whole(&self) -> Option<&Datum>
-        ensures { option_copied result ≡ whole self.now }
-    {
-        match self {
-            DatumStage::Whole(datum) => Some(datum),
-            _ => None,
-        }
     }
 }

@@ -1,9 +1,10 @@
 //! The run of the program.
 ghost use Rattle.std.specs.Prelude.{◌≡◌, ◌≢◌, ◌≤◌, ◌↔◌, false, length, map, Some, None, IfSome};
 ghost use Rattle.std.specs.String.{string_bytes};
-ghost use Rattle.lie_session.specs.Output.{OneOutput, FieldsAreSized, DataAreLoaded};
+ghost use Rattle.lie_session.specs.Output.{FieldsAreSized, DataAreLoaded};
+ghost use Rattle.lie_session.specs.OneOutput.{OneOutputUpToForms, OneOutputWithoutForms};
+ghost use Rattle.lie_session.specs.Printed.{FormsAreJoined, EqualRepliesAreJoined};
 ghost use Rattle.lie_session.specs.Loaded.{GroupsAreLoaded, MatricesAreProducts};
-ghost use Rattle.lie_reply.specs.Laws.{RepliesTellWords, RepliesDecideTorusWords};
 ghost use Rattle.lie_session.specs.Runs.{mode_of, input_limit, Cause, CauseOf, ReadCounts, WriteCounts, Complete, Exceeds};
 ghost use Rattle.lie_session.specs.Steps.{stop_status, Answered, AnsweredAtEnd, Replied};
 ghost use Rattle.lie_session.specs.State.{ended_status};
@@ -137,11 +138,12 @@ pub fn lie<S: Source, K: Sink>(
     ensures complete { IfSome (mode_of (map string_bytes words.now)) (λ mode. Complete mode (S.left source.old) (K.written sink.old) (K.written sink.new) (S.faults source.old) (S.faults source.new) (K.faults sink.old) (K.faults sink.new) result) }
     ensures exceeds { IfSome (mode_of (map string_bytes words.now)) (λ mode. Exceeds (S.left source.old) (S.faults source.old) (S.faults source.new) result) }
 
-    // What the replies are worth: there is one output, and equal replies to `form` mean joined words; of torus
-    // letters alone, exactly joined words have equal replies.
-    ensures one { OneOutput }
-    ensures words { RepliesTellWords }
-    ensures torus_words { RepliesDecideTorusWords }
+    // What the replies are worth: there is one output up to the forms that are printed, each word prints a form that
+    // is joined to it, and equal replies to `form` mean joined words.
+    ensures one { OneOutputUpToForms }
+    ensures formless { OneOutputWithoutForms }
+    ensures forms { FormsAreJoined }
+    ensures words { EqualRepliesAreJoined }
     ensures sized { FieldsAreSized }
     ensures sound { DataAreLoaded }
 

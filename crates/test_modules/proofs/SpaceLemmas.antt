@@ -7,6 +7,7 @@ use Rattle.lie_const.specs.ConstantTables.{ConstantTable, value_of, LoadsConstan
 use Rattle.lie_const.specs.Modules.{Module, IsModule}
 use Rattle.lie_const.specs.Signs.{Signs, SignTable, IsSignTable}
 use Rattle.lie_weight.specs.OrbitFaults.{LoadsOrbit}
+use Rattle.lie_weight.specs.Carriers.{LoadsCarrier}
 use Rattle.lie_audit.specs.SignAnswers.{AreTestedSigns}
 
 -- the adjoint module by a table that stands for the datum is that of the datum
@@ -24,6 +25,10 @@ positive_of d v m = m.positive
 -- so has that of an orbit
 pub orbit_positive : (d : RootDatum) (eta : Signs) (w : Vector) (v : Module) → LoadsOrbit d eta w (Ok v) → v.positive ≡ length d.positive
 orbit_positive d eta w v loads = loads.1.steps.shape.positive
+
+-- so has the carrier
+pub carrier_positive : (d : RootDatum) (eta : Signs) (a v : Module) → LoadsCarrier d eta a (Ok v) → v.positive ≡ length d.positive
+carrier_positive d eta a v loads = loads.0.sum.2.shape.positive
 
 -- signs that are read off are a table of signs
 pub tested_table : (d : RootDatum) (v : Module) (t : SignTable) → AreTestedSigns d v t → IsSignTable d t

@@ -49,6 +49,12 @@ pub(crate) fn about_spaces(
             let space = made(alloc, &roots.datum, table, v)?;
             matrix(&roots.datum, &space, k, power, answer)?;
         }
+        ("carrier", [_]) => carrier(alloc, &roots.datum, answer)?,
+        ("carrier matrix", [letter]) => {
+            let (k, power) = pair(letter)?;
+            let space = made_carrier(alloc, &roots.datum)?;
+            matrix(&roots.datum, &space, k, power, answer)?;
+        }
         ("signs of the adjoint module", [_]) => found_signs(alloc, roots, answer)?,
         ("braid values", [_]) => braids(alloc, &roots.datum, table, answer)?,
         _ => return Ok(false),
@@ -209,12 +215,20 @@ fn orbit(
     }
 }
 
-/// Writes the root at which a weight is not minuscule.
+/// Writes the root at which a weight is not minuscule, how many weights there are, or which is too large.
 fn write_fault(fault: ModuleFault, answer: &mut Answer) -> Result<(), Stop> {
     match fault {
         ModuleFault::NotMinuscule(r) => {
             answer.word("not minuscule at")?;
             Ok(answer.number(i128::from(r.number()))?)
+        }
+        ModuleFault::Wide(n) => {
+            answer.word("wide")?;
+            Ok(answer.number(i128::from(n))?)
+        }
+        ModuleFault::Heavy(a) => {
+            answer.word("heavy")?;
+            Ok(answer.number(a as i128)?)
         }
         _ => Err(Stop::NoQuestion),
     }
@@ -235,6 +249,47 @@ fn signs_of(alloc: Global, datum: &Datum, space: &Module) -> Result<Signs, SignF
     ensures { IfOk result (IsSignTable datum.now) }
 {
     read_signs(alloc, datum, space)
+}
+
+/// The carrier, or its fault.
+#[tactic(auto, using(crate::proofs::SpaceLemmas::carrier_positive))]
+fn carrier_of(
+    alloc: Global,
+    datum: &Datum,
+    signs: &Signs,
+    adjoint: &Module,
+) -> Result<Module, ModuleFault>
+    requires signs { IsSignTable datum.now signs.now }
+    requires adjoint { IsAdjointOf datum.now adjoint.now }
+    ensures { IfOk result (λ space. space.positive ≡ length datum.now.positive) }
+{
+    Module::carrier(alloc, datum, signs, adjoint)
+}
+
+/// The carrier for the signs that are read off the adjoint module, or its fault.
+fn found_carrier(alloc: Global, datum: &Datum) -> Result<Result<Module, ModuleFault>, Stop>
+    ensures { IfOk result (λ found. IfOk found (λ space. space.positive ≡ length datum.now.positive)) }
+{
+    let adjoint = adjoint(alloc, datum)?;
+    match signs_of(alloc, datum, &adjoint) {
+        Ok(signs) => Ok(carrier_of(alloc, datum, &signs, &adjoint)),
+        Err(_) => Err(Stop::NoQuestion),
+    }
+}
+
+/// The carrier.
+fn made_carrier(alloc: Global, datum: &Datum) -> Result<Module, Stop>
+    ensures { IfOk result (λ space. space.positive ≡ length datum.now.positive) }
+{
+    found_carrier(alloc, datum)?.map_err(|_| Stop::NoQuestion)
+}
+
+/// Writes the weights of the carrier, or its fault.
+fn carrier(alloc: Global, datum: &Datum, answer: &mut Answer) -> Result<(), Stop> {
+    match found_carrier(alloc, datum)? {
+        Ok(space) => weights(datum, &space, answer),
+        Err(fault) => write_fault(fault, answer),
+    }
 }
 
 /// Writes the signs that are read off the adjoint module.

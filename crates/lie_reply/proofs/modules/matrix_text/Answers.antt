@@ -1,5 +1,4 @@
-use Rattle.std.proofs.Common.{rules, ◌≡◌, ◌++◌, ap, sym, ◌∙◌, arith}
-use Rattle.std.specs.List.{flat_map, range_with_len}
+use Rattle.std.proofs.Common.{rules, ◌≡◌, ◌++◌, ap, sym, ◌∙◌}
 use Rattle.lie_reply.specs.Modules.{row_text}
 use Rattle.lie_reply.proofs.RowLemmas.{rows-more}
 use Rattle.lie_reply.proofs.modules.matrix_text.Goals as goal

@@ -1,9 +1,8 @@
 use Rattle.std.proofs.Common.{sym, ◌∙◌}
 use Rattle.lie_session.proofs.CauseLemmas.{complete_from}
-use Rattle.lie_session.proofs.StatusLemmas.{fields_are_sized, data_are_loaded}
-use Rattle.lie_session.proofs.LoadedLemmas.{groups_are_loaded, matrices_are_products}
-use Rattle.lie_session.proofs.OneOutputLemmas.{one_output}
-use Rattle.lie_reply.proofs.TextLemmas.{replies_tell_words, replies_decide_torus_words}
+use Rattle.lie_session.proofs.LoadedLemmas.{fields_are_sized, data_are_loaded, groups_are_loaded, matrices_are_products}
+use Rattle.lie_session.proofs.OneOutputLemmas.{one_output_up_to_forms, one_output_without_forms}
+use Rattle.lie_session.proofs.PrintedLemmas.{forms_are_joined, equal_replies_are_joined}
 use Rattle.lie_session.proofs.program.lie.Goals as goal
 
 pub returns-in-Some-clause-complete : goal.returns-in-Some-clause-complete
@@ -13,13 +12,16 @@ returns-in-Some-clause-complete g c =
     _ _ _ _ c.run.result c.run.ensures.read c.run.ensures.written c.run.ensures.cause)
 
 pub returns-in-Some-clause-one : goal.returns-in-Some-clause-one
-returns-in-Some-clause-one g c = one_output
+returns-in-Some-clause-one g c = one_output_up_to_forms
+
+pub returns-in-Some-clause-formless : goal.returns-in-Some-clause-formless
+returns-in-Some-clause-formless g c = one_output_without_forms
+
+pub returns-in-Some-clause-forms : goal.returns-in-Some-clause-forms
+returns-in-Some-clause-forms g c = forms_are_joined
 
 pub returns-in-Some-clause-words : goal.returns-in-Some-clause-words
-returns-in-Some-clause-words g c = replies_tell_words
-
-pub returns-in-Some-clause-torus_words : goal.returns-in-Some-clause-torus_words
-returns-in-Some-clause-torus_words g c = replies_decide_torus_words
+returns-in-Some-clause-words g c = equal_replies_are_joined
 
 pub returns-in-Some-clause-sized : goal.returns-in-Some-clause-sized
 returns-in-Some-clause-sized g c = fields_are_sized
@@ -34,13 +36,16 @@ pub returns-in-Some-clause-matrices : goal.returns-in-Some-clause-matrices
 returns-in-Some-clause-matrices g c = matrices_are_products
 
 pub returns-in-None-clause-one : goal.returns-in-None-clause-one
-returns-in-None-clause-one g c = one_output
+returns-in-None-clause-one g c = one_output_up_to_forms
+
+pub returns-in-None-clause-formless : goal.returns-in-None-clause-formless
+returns-in-None-clause-formless g c = one_output_without_forms
+
+pub returns-in-None-clause-forms : goal.returns-in-None-clause-forms
+returns-in-None-clause-forms g c = forms_are_joined
 
 pub returns-in-None-clause-words : goal.returns-in-None-clause-words
-returns-in-None-clause-words g c = replies_tell_words
-
-pub returns-in-None-clause-torus_words : goal.returns-in-None-clause-torus_words
-returns-in-None-clause-torus_words g c = replies_decide_torus_words
+returns-in-None-clause-words g c = equal_replies_are_joined
 
 pub returns-in-None-clause-sized : goal.returns-in-None-clause-sized
 returns-in-None-clause-sized g c = fields_are_sized

@@ -1,6 +1,6 @@
 use Rattle.std.proofs.Common.{◌≡◌, Some, None, sym, ap, ◌∙◌}
 use Rattle.std.specs.Option.{option_copied}
-use Rattle.lie_session.proofs.StateLemmas.{listed_dimension}
+use Rattle.lie_session.proofs.StageLemmas.{listed_dimension}
 use Rattle.lie_session.proofs.modules.ModulesNames.dim_of.Goals as goal
 
 pub returns-in-Some : goal.returns-in-Some

@@ -1,0 +1,313 @@
+-- A line at one stage leads to one outcome, want of memory aside, up to constants that say the same and to forms of one word.
+use Rattle.std.proofs.Common.{◌≡◌, ◌≢◌, ℕ, Bool, true, false, List, [], Option, Some, None, Result, Ok, Err, refl, sym, ap, ◌∙◌, subst, inl, inr}
+use Rattle.std.specs.Prelude.{⊤, MatchOption, map, nat_abs}
+use Rattle.std.specs.Bool.{MatchBool}
+use Rattle.std.specs.Option.{IfSome, IsSome}
+use Rattle.std.proofs.lemmas.Bool.{false≢true}
+use Rattle.lie_audit.specs.WordMatrix.{word_matrix}
+use Rattle.lie_audit.proofs.OneAdjointLemmas.{one_adjoint}
+use Rattle.lie_const.specs.ConstantTables.{ConstantTable, IsSameTable}
+use Rattle.lie_const.specs.Modules.{Module, dimension}
+use Rattle.lie_const.specs.Signs.{eta_of}
+use Rattle.lie_datum.specs.Load.{Loads as LoadsDatum}
+use Rattle.lie_datum.specs.RootList.{RootDatum, IsLoaded}
+use Rattle.lie_datum.specs.declared.faults.DatumFault.{DatumFault}
+use Rattle.lie_datum.specs.declared.faults.DatumFault.TheVariants as datum_fault
+use Rattle.lie_datum.proofs.OneAnswer.{loads_one_way}
+use Rattle.lie_field.specs.FiniteField.{FiniteField, same_field}
+use Rattle.lie_field.specs.Faults.{IsWithinLimit, Loads as LoadsField, IsFault}
+use Rattle.lie_field.specs.Quotient.{FieldData, field_data, IsFieldData}
+use Rattle.lie_field.specs.declared.faults.FieldFault.{FieldFault}
+use Rattle.lie_field.specs.declared.faults.FieldFault.TheVariants as field_fault
+use Rattle.lie_field.proofs.FaultLemmas.{faults_once, field_has_no_fault}
+use Rattle.lie_group.specs.Loading.{MakesFrame, IsSameFrame, IsSameAnswer}
+use Rattle.lie_group.specs.declared.faults.LoadFault.{LoadFault}
+use Rattle.lie_group.specs.declared.faults.LoadFault.TheVariants as load_fault
+use Rattle.lie_group.proofs.OneFrame.{one_frame}
+use Rattle.lie_letters.specs.SignedFrames.{SignedFrame}
+use Rattle.lie_letters.specs.declared.letter.Letter.{Letter}
+use Rattle.lie_reply.specs.Commands.{FormTextOf}
+use Rattle.lie_reply.specs.Modules.{module_text, matrix_text}
+use Rattle.lie_reply.specs.Texts.{loaded_text}
+use Rattle.lie_reply.proofs.ConstantLemmas.{one_constant_text}
+use Rattle.lie_reply.proofs.WeylLemmas.{one_weyl_text}
+use Rattle.lie_script.specs.declared.line.Line.{Line}
+use Rattle.lie_script.specs.declared.line.Line.TheVariants as line
+use Rattle.lie_weight.specs.OrbitFaults.{LoadsOrbit}
+use Rattle.lie_weight.specs.declared.faults.ModuleFault.{ModuleFault}
+use Rattle.lie_weight.specs.declared.faults.ModuleFault.TheVariants as orbit_fault
+use Rattle.lie_weight.proofs.OneOrbitAnswer.{one_answer as one_orbit}
+use Rattle.lie_session.specs.DatumLines.{DatumLines, opened, padded, with_root, with_coroot, is_whole, base_of}
+use Rattle.lie_session.specs.Faults.{field_words, datum_words, load_words, module_words, words_of}
+use Rattle.lie_session.specs.Held.{Setting, LoadedGroup}
+use Rattle.lie_session.specs.Named.{Named, module_of}
+use Rattle.lie_session.specs.Outcomes.{Outcome, quiet, answered, field_outcome, datum_outcome, frame_outcome, module_outcome, with_module, KeepsDatum, CollectsBy, Leads}
+use Rattle.lie_session.specs.declared.faults.CallFault.TheVariants as call
+use Rattle.lie_session.specs.State.{field_of, datum_of}
+use Rattle.lie_session.specs.declared.faults.CallFault.TheVariants as call
+use Rattle.lie_session.specs.declared.stage.Stage.{Stage}
+use Rattle.lie_session.specs.declared.stage.Stage.TheVariants as stage
+use Rattle.lie_session.proofs.LoadedLemmas.{IsReached}
+
+-- the group with other constants
+abbrev pub with_constants : LoadedGroup → ConstantTable → LoadedGroup
+with_constants g c = record g { frame = record g.frame { constants = c } }
+
+-- one stage, up to constants that say the same
+pub data IsSameStage : Stage → Stage → Type 0 where
+  equal : (at : Stage) → IsSameStage at at
+  groups : (g : LoadedGroup) (c : ConstantTable) → IsSameTable g.frame.datum g.frame.constants c → IsSameStage (stage.Loaded g) (stage.Loaded (with_constants g c))
+
+-- two texts that answer `form` or `collect`: of forms of its word, for frames that say the same
+pub record AreFormTexts (at : Stage) (said : Line) (t u : List ℕ) : Type 0 where
+  pub word : List Letter
+  pub says : (said ≡ line.Form word) ⊎ (said ≡ line.Collect word)
+  pub frame : SignedFrame
+  pub other : SignedFrame
+  pub field_is : field_of at ≡ Some frame.field
+  pub datum_is : datum_of at ≡ Some frame.datum
+  pub same : IsSameFrame frame other
+  pub left : FormTextOf frame word t
+  pub right : FormTextOf other word u
+
+-- one text, or texts of forms
+abbrev pub AreAlikeTexts : Stage → Line → Option (List ℕ) → Option (List ℕ) → Type 0
+AreAlikeTexts at said None None = ⊤
+AreAlikeTexts at said None (Some u) = ⊥
+AreAlikeTexts at said (Some t) None = ⊥
+AreAlikeTexts at said (Some t) (Some u) = (t ≡ u) ⊎ AreFormTexts at said t u
+
+same_texts : (at : Stage) (said : Line) (t u : Option (List ℕ)) → t ≡ u → AreAlikeTexts at said t u
+same_texts at said None None e = tt
+same_texts at said None (Some u) e = absurd cc
+same_texts at said (Some t) None e = absurd cc
+same_texts at said (Some t) (Some u) e = inl cc
+
+-- one outcome
+abbrev pub IsSameOutcome : Stage → Line → Outcome → Outcome → Type 0
+IsSameOutcome at said (Ok x) (Ok y) = IsSameStage x.0 y.0 × AreAlikeTexts at said x.1 y.1
+IsSameOutcome at said (Ok x) (Err why) = ⊥
+IsSameOutcome at said (Err why) (Ok y) = ⊥
+IsSameOutcome at said (Err why) (Err other) = why ≡ other
+
+-- an outcome that is told: not want of memory
+abbrev pub IsTold : Outcome → Type 0
+IsTold (Ok x) = ⊤
+IsTold (Err why) = IsSome (words_of why)
+
+same_from : (a b : Stage) → a ≡ b → IsSameStage a b
+same_from a b e = subst (IsSameStage a) e (equal a)
+
+same_outcome : (r q : Outcome) → r ≡ q → IsSameOutcome r q
+same_outcome (Ok x) (Ok y) e = let is : x ≡ y = cc in (same_from x.0 y.0 (ap (λ z. z.0) is), ap (λ z. z.1) is)
+same_outcome (Ok x) (Err why) e = absurd cc
+same_outcome (Err why) (Ok y) e = absurd cc
+same_outcome (Err why) (Err other) e = cc
+
+-- two outcomes by two equations
+by_both : (r q x y : Outcome) → r ≡ x → q ≡ y → IsSameOutcome x y → IsSameOutcome r q
+by_both r q x y r_is q_is h = subst (λ z. IsSameOutcome z q) (sym r_is) (subst (λ z. IsSameOutcome x z) (sym q_is) h)
+
+told_as : (r x : Outcome) → r ≡ x → IsTold r → IsTold x
+told_as r x is h = subst IsTold is h
+
+-- ---- fields
+
+field_named : (why : FieldFault) → IsSome (field_words why) → why ≢ field_fault.NoMemory
+field_named why h e = false≢true (subst (λ z. IsSome (field_words z)) e h)
+
+field_once : (given : FieldData) (x y : Result FiniteField FieldFault) → LoadsField given x → LoadsField given y → IsTold (field_outcome x) → IsTold (field_outcome y) → field_outcome x ≡ field_outcome y
+field_once given (Ok F) (Ok E) h k a b = ap (λ (G : FiniteField). field_outcome (Ok G)) (same_field F E (h.0 ∙ sym k.0))
+field_once given (Ok F) (Err why) h k a b = absurd (field_named why b (field_has_no_fault given (subst IsWithinLimit h.0 h.1) (subst IsFieldData h.0 h.2) why k))
+field_once given (Err why) (Ok F) h k a b = absurd (field_named why a (field_has_no_fault given (subst IsWithinLimit k.0 k.1) (subst IsFieldData k.0 k.2) why h))
+field_once given (Err why) (Err other) h k a b = ap (λ z. field_outcome (Err z)) (faults_once given why other h k (field_named why a) (field_named other b))
+
+-- ---- data
+
+datum_named : (l : ℕ) (why : DatumFault) → IsSome (datum_words l why) → why ≢ datum_fault.NoMemory
+datum_named l why h e = false≢true (subst (λ z. IsSome (datum_words l z)) e h)
+
+abbrev DatumAnswer : Type 0
+DatumAnswer = Result RootDatum DatumFault
+
+datum_ok : (D : RootDatum) → ◌≡◌ {A = DatumAnswer} (Ok D) (Err datum_fault.NoMemory) → ⊥
+datum_ok D e = absurd cc
+
+datum_err : (why : DatumFault) → why ≢ datum_fault.NoMemory → ◌≡◌ {A = DatumAnswer} (Err why) (Err datum_fault.NoMemory) → ⊥
+datum_err why named e = let is : why ≡ datum_fault.NoMemory = cc in named is
+
+datum_once : (F : FiniteField) (lines : DatumLines) (x y : DatumAnswer) → LoadsDatum (base_of lines) x → LoadsDatum (base_of lines) y → IsTold (datum_outcome F lines x) → IsTold (datum_outcome F lines y)
+    → datum_outcome F lines x ≡ datum_outcome F lines y
+datum_once F lines (Ok D) (Ok E) h k a b = ap (datum_outcome F lines) (loads_one_way (base_of lines) (Ok D) (Ok E) h k (datum_ok D) (datum_ok E))
+datum_once F lines (Ok D) (Err why) h k a b = ap (datum_outcome F lines) (loads_one_way (base_of lines) (Ok D) (Err why) h k (datum_ok D) (datum_err why (datum_named lines.rank why b)))
+datum_once F lines (Err why) (Ok D) h k a b = ap (datum_outcome F lines) (loads_one_way (base_of lines) (Err why) (Ok D) h k (datum_err why (datum_named lines.rank why a)) (datum_ok D))
+datum_once F lines (Err why) (Err other) h k a b =
+    ap (datum_outcome F lines) (loads_one_way (base_of lines) (Err why) (Err other) h k (datum_err why (datum_named lines.rank why a)) (datum_err other (datum_named lines.rank other b)))
+
+joined_once : (at : Stage) (said : Line) (F : FiniteField) (lines : DatumLines) (whole : Bool) (r q : Outcome) → IsTold r → IsTold q
+    → MatchBool whole (KeepsDatum F lines r) (r ≡ quiet (stage.Lines F lines)) → MatchBool whole (KeepsDatum F lines q) (q ≡ quiet (stage.Lines F lines)) → IsSameOutcome at said r q
+joined_once at said F lines true r q a b h k =
+    same_outcome at said r q (h.2 ∙ datum_once F lines h.0 k.0 h.1 k.1 (told_as r (datum_outcome F lines h.0) h.2 a) (told_as q (datum_outcome F lines k.0) k.2 b) ∙ sym k.2)
+joined_once at said F lines false r q a b h k = same_outcome at said r q (h ∙ sym k)
+
+-- ---- frames
+
+load_named : (why : LoadFault) → IsSome (load_words why) → why ≢ load_fault.NoMemory
+load_named why h e = false≢true (subst (λ z. IsSome (load_words z)) e h)
+
+abbrev FrameAnswer : Type 0
+FrameAnswer = Result SignedFrame LoadFault
+
+frame_ok : (g : SignedFrame) → ◌≡◌ {A = FrameAnswer} (Ok g) (Err load_fault.NoMemory) → ⊥
+frame_ok g e = absurd cc
+
+frame_err : (why : LoadFault) → why ≢ load_fault.NoMemory → ◌≡◌ {A = FrameAnswer} (Err why) (Err load_fault.NoMemory) → ⊥
+frame_err why named e = let is : why ≡ load_fault.NoMemory = cc in named is
+
+-- frames that say the same make one stage
+same_frames : (g h : SignedFrame) → IsSameFrame g h → IsSameStage (stage.Loaded (record { frame = g; modules = [] })) (stage.Loaded (record { frame = h; modules = [] }))
+same_frames g h same =
+    let is : record g { constants = h.constants } ≡ h = λ i. record { field = same.field i; datum = same.datum i; constants = h.constants; signs = same.signs i } in
+    subst (λ (x : SignedFrame). IsSameStage (stage.Loaded (record { frame = g; modules = [] })) (stage.Loaded (record { frame = x; modules = [] }))) is
+    (groups (record { frame = g; modules = [] }) h.constants same.constants)
+
+same_answers : (at : Stage) (said : Line) (x y : FrameAnswer) → IsSameAnswer x y → IsSameOutcome at said (frame_outcome x) (frame_outcome y)
+same_answers at said (Ok g) (Ok h) same = (same_frames g h same, inl (ap (λ F. loaded_text F g.datum) same.field ∙ ap (loaded_text h.field) same.datum))
+same_answers at said (Ok g) (Err why) same = absurd same
+same_answers at said (Err why) (Ok h) same = absurd same
+same_answers at said (Err why) (Err other) same = ap (λ z. call.Load z) same
+
+frame_told : (x : FrameAnswer) → IsTold (frame_outcome x) → ◌≢◌ {A = FrameAnswer} x (Err load_fault.NoMemory)
+frame_told (Ok g) a = frame_ok g
+frame_told (Err why) a = frame_err why (load_named why a)
+
+-- two frames of one field and one datum
+frame_once : (setting : Setting) (x y : FrameAnswer) → IsLoaded setting.datum → MakesFrame setting.field setting.datum x → MakesFrame setting.field setting.datum y
+    → IsTold (frame_outcome x) → IsTold (frame_outcome y) → IsSameAnswer x y
+frame_once setting x y loaded h k a b = one_frame setting.field setting.datum x y loaded h k (frame_told x a) (frame_told y b)
+
+-- forms of one word for them
+collect_once : (setting : Setting) (w : List Letter) (x y : FrameAnswer) (r q : Outcome) → IsLoaded setting.datum → MakesFrame setting.field setting.datum x → MakesFrame setting.field setting.datum y
+    → IsTold r → IsTold q → CollectsBy setting w x r → CollectsBy setting w y q → IsSameOutcome (stage.Load setting) (line.Collect w) r q
+collect_once setting w (Ok g) (Ok h) r q loaded m k a b c d =
+    by_both (stage.Load setting) (line.Collect w) r q (answered (stage.Load setting) c.0) (answered (stage.Load setting) d.0) c.2 d.2 (
+      equal (stage.Load setting),
+      inr (record {
+        word = w;
+        says = inr refl;
+        frame = g;
+        other = h;
+        field_is = ap Some (sym m.field);
+        datum_is = ap Some (sym m.datum);
+        same = one_frame setting.field setting.datum (Ok g) (Ok h) loaded m k (frame_ok g) (frame_ok h);
+        left = c.1;
+        right = d.1;
+      }),
+    )
+collect_once setting w (Ok g) (Err why) r q loaded m k a b c d =
+    absurd (one_frame setting.field setting.datum (Ok g) (Err why) loaded m k (frame_ok g) (frame_err why (load_named why (subst IsTold d b))))
+collect_once setting w (Err why) (Ok h) r q loaded m k a b c d =
+    absurd (one_frame setting.field setting.datum (Err why) (Ok h) loaded m k (frame_err why (load_named why (subst IsTold c a))) (frame_ok h))
+collect_once setting w (Err why) (Err other) r q loaded m k a b c d =
+    let same : why ≡ other = one_frame setting.field setting.datum (Err why) (Err other) loaded m k (frame_err why (load_named why (subst IsTold c a))) (frame_err other (load_named other (subst IsTold d b))) in
+    same_outcome (stage.Load setting) (line.Collect w) r q (c ∙ ap (λ z. failed z) same ∙ sym d) where
+      failed : LoadFault → Outcome
+      failed z = Err (call.Load z)
+
+-- ---- modules
+
+module_named : (why : ModuleFault) → IsSome (module_words why) → why ≢ orbit_fault.NoMemory
+module_named why h e = false≢true (subst (λ z. IsSome (module_words z)) e h)
+
+abbrev ModuleAnswer : Type 0
+ModuleAnswer = Result Module ModuleFault
+
+module_ok : (v : Module) → ◌≡◌ {A = ModuleAnswer} (Ok v) (Err orbit_fault.NoMemory) → ⊥
+module_ok v e = absurd cc
+
+module_err : (why : ModuleFault) → why ≢ orbit_fault.NoMemory → ◌≡◌ {A = ModuleAnswer} (Err why) (Err orbit_fault.NoMemory) → ⊥
+module_err why named e = let is : why ≡ orbit_fault.NoMemory = cc in named is
+
+module_told : (g : LoadedGroup) (name : List ℕ) (x : ModuleAnswer) → IsTold (module_outcome g name x) → ◌≢◌ {A = ModuleAnswer} x (Err orbit_fault.NoMemory)
+module_told g name (Ok v) a = module_ok v
+module_told g name (Err why) a = module_err why (module_named why a)
+
+module _ (g : LoadedGroup) (c : ConstantTable) (table : IsSameTable g.frame.datum g.frame.constants c) (said : Line) where
+  -- a text at both
+  same_answer : (r q : Outcome) (text other : List ℕ) → r ≡ answered (stage.Loaded g) text → q ≡ answered (stage.Loaded (with_constants g c)) other → text ≡ other → IsSameOutcome (stage.Loaded g) said r q
+  same_answer r q text other r_is q_is same =
+      by_both (stage.Loaded g) said r q (answered (stage.Loaded g) text) (answered (stage.Loaded (with_constants g c)) other) r_is q_is (groups g c table, inl same)
+
+  -- neither has a text
+  same_quiet : (r q : Outcome) → r ≡ quiet (stage.Loaded g) → q ≡ quiet (stage.Loaded (with_constants g c)) → IsSameOutcome (stage.Loaded g) said r q
+  same_quiet r q r_is q_is = by_both (stage.Loaded g) said r q (quiet (stage.Loaded g)) (quiet (stage.Loaded (with_constants g c))) r_is q_is (groups g c table, tt)
+
+  module_same : (name : List ℕ) (x : ModuleAnswer) → IsSameOutcome (stage.Loaded g) said (module_outcome g name x) (module_outcome (with_constants g c) name x)
+  module_same name (Ok v) = (groups (with_module g name v) c table, inl refl)
+  module_same name (Err why) = refl
+
+  module_once : (name : List ℕ) (x y : ModuleAnswer) (r q : Outcome) → r ≡ module_outcome g name x → q ≡ module_outcome (with_constants g c) name y → x ≡ y → IsSameOutcome (stage.Loaded g) said r q
+  module_once name x y r q r_is q_is is =
+      by_both (stage.Loaded g) said r q (module_outcome g name x) (module_outcome (with_constants g c) name y) r_is q_is
+      (subst (λ z. IsSameOutcome (stage.Loaded g) said (module_outcome g name x) (module_outcome (with_constants g c) name z)) is (module_same name x))
+
+  matrix_once : (text : Module → List ℕ) (o : Option Module) (r q : Outcome) → MatchOption o (r ≡ quiet (stage.Loaded g)) (λ v. r ≡ answered (stage.Loaded g) (text v))
+      → MatchOption o (q ≡ quiet (stage.Loaded (with_constants g c))) (λ v. q ≡ answered (stage.Loaded (with_constants g c)) (text v)) → IsSameOutcome (stage.Loaded g) said r q
+  matrix_once text None r q a b = same_quiet r q a b
+  matrix_once text (Some v) r q a b = same_answer r q (text v) (text v) a b refl
+
+-- commands
+loaded_once : (g : LoadedGroup) (c : ConstantTable) → IsSameTable g.frame.datum g.frame.constants c → (said : Line) (r q : Outcome) → IsLoaded g.frame.datum → IsTold r → IsTold q
+    → Leads (stage.Loaded g) said r → Leads (stage.Loaded (with_constants g c)) said q → IsSameOutcome (stage.Loaded g) said r q
+loaded_once g c table (line.Form w) r q loaded a b x y =
+    by_both (stage.Loaded g) (line.Form w) r q (answered (stage.Loaded g) x.0) (answered (stage.Loaded (with_constants g c)) y.0) x.2 y.2 (
+      groups g c table,
+      inr (record {
+        word = w;
+        says = inl refl;
+        frame = g.frame;
+        other = record g.frame { constants = c };
+        field_is = refl;
+        datum_is = refl;
+        same = record { field = refl; datum = refl; constants = table; signs = refl };
+        left = x.1;
+        right = y.1;
+      }),
+    )
+loaded_once g c table line.Roots r q loaded a b x y = same_answer g c table line.Roots r q _ _ x y refl
+loaded_once g c table (line.Constant p t) r q loaded a b x y = same_answer g c table (line.Constant p t) r q x.0 y.0 x.2 y.2 (one_constant_text g.frame.datum p t x.0 y.0 loaded x.1 y.1)
+loaded_once g c table (line.Weyl indices) r q loaded a b x y = same_answer g c table (line.Weyl indices) r q x.0 y.0 x.2 y.2 (one_weyl_text g.frame.datum indices x.0 y.0 loaded x.1 y.1)
+loaded_once g c table (line.Adjoint name) r q loaded a b x y =
+    module_once g c table (line.Adjoint name) name (Ok x.0) (Ok y.0) r q x.2 y.2 (ap Ok (one_adjoint g.frame.datum loaded x.0 y.0 x.1 y.1))
+loaded_once g c table (line.Orbit name w) r q loaded a b x y =
+    module_once g c table (line.Orbit name w) name x.0 y.0 r q x.2 y.2
+    (one_orbit g.frame.datum (eta_of g.frame.signs) (padded w) x.0 y.0 loaded x.1 y.1
+    (module_told g name x.0 (told_as r (module_outcome g name x.0) x.2 a)) (module_told (with_constants g c) name y.0 (told_as q (module_outcome (with_constants g c) name y.0) y.2 b)))
+loaded_once g c table (line.Matrix name w) r q loaded a b x y =
+    matrix_once g c table (line.Matrix name w) (λ v. matrix_text (word_matrix g.frame.field v w)) (module_of g.modules name) r q x y
+loaded_once g c table said r q loaded a b x y = same_quiet g c table said r q x y
+
+-- ---- any line
+
+same_table : (D : RootDatum) (c : ConstantTable) → IsSameTable D c c
+same_table D c = record { positive = refl; values = λ r s h k. refl; terms = λ r s h. refl }
+
+at_once : (at : Stage) (said : Line) (r q : Outcome) → IsReached at → IsTold r → IsTold q → Leads at said r → Leads at said q → IsSameOutcome at said r q
+at_once stage.Field (line.Field p k coeffs g) r q there a b x y =
+    same_outcome stage.Field (line.Field p k coeffs g) r q
+    (x.2 ∙ field_once (field_data p (map nat_abs coeffs) g) x.0 y.0 x.1 y.1 (told_as r (field_outcome x.0) x.2 a) (told_as q (field_outcome y.0) y.2 b) ∙ sym y.2)
+at_once (stage.Datum F) (line.Datum d l) r q there a b x y = joined_once (stage.Datum F) (line.Datum d l) F (opened d l) (is_whole (opened d l)) r q a b x y
+at_once (stage.Lines F lines) (line.Root v) r q there a b x y = joined_once (stage.Lines F lines) (line.Root v) F (with_root lines v) (is_whole (with_root lines v)) r q a b x y
+at_once (stage.Lines F lines) (line.Coroot v) r q there a b x y = joined_once (stage.Lines F lines) (line.Coroot v) F (with_coroot lines v) (is_whole (with_coroot lines v)) r q a b x y
+at_once (stage.Load setting) (line.Collect w) r q there a b x y = collect_once setting w x.0 y.0 r q there.1 x.1 y.1 a b x.2 y.2
+at_once (stage.Load setting) line.Load r q there a b x y =
+    by_both (stage.Load setting) line.Load r q (frame_outcome x.0) (frame_outcome y.0) x.2 y.2
+    (same_answers (stage.Load setting) line.Load x.0 y.0
+    (frame_once setting x.0 y.0 there.1 x.1 y.1 (told_as r (frame_outcome x.0) x.2 a) (told_as q (frame_outcome y.0) y.2 b)))
+at_once (stage.Loaded g) said r q there a b x y = loaded_once g g.frame.constants (same_table g.frame.datum g.frame.constants) said r q there.frame.lawful.lawful.loaded a b x y
+at_once at said r q there a b x y = same_outcome at said r q (x ∙ sym y)
+
+-- a line at two stages that are the same leads to one outcome
+pub leads_once : (at to : Stage) → IsSameStage at to → (said : Line) (r q : Outcome) → IsReached at → IsTold r → IsTold q → Leads at said r → Leads to said q → IsSameOutcome at said r q
+leads_once _ _ (equal at) said r q there a b x y = at_once at said r q there a b x y
+leads_once _ _ (groups g c table) said r q there a b x y = loaded_once g c table said r q there.frame.lawful.lawful.loaded a b x y

@@ -1,0 +1,12 @@
+use Rattle.std.proofs.Common.{refl}
+use Rattle.std.proofs.lemmas.Result.{err_from_is_err_and}
+use Rattle.lie_session.proofs.StageLemmas.{word_of_frame}
+use Rattle.lie_session.proofs.stage.collect.Goals as goal
+
+pub printed-requires : goal.printed-requires
+printed-requires c = word_of_frame c.args.setting.field c.args.setting.datum c.in_ok-frame.frame c.args.w.now c.in_ok-frame.ensures c.requires
+
+pub returns-in_err-text : goal.returns-in_err-text
+returns-in_err-text c =
+    let p = err_from_is_err_and c.from_residual-in_err-text.result c.from_residual-in_err-text.ensures.1 in
+    rw (p.1, p.2) (λ named. absurd (named refl))

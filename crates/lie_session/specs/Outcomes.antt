@@ -1,0 +1,142 @@
+-- What a line leads to: a stage, with a text where it is answered, or the fault of a call.
+-- Own: all texts.
+--
+--   the outcome of a call      the call's own clause says what it answers; its outcome is what the session makes of that
+use Rattle.std.specs.Prelude.{◌≡◌, ℕ, List, [], ◌∷◌, ◌++◌, ℤ, map, nat_abs, Option, Some, None, Result, Ok, Err, MatchOption}
+use Rattle.std.specs.Bool.{MatchBool}
+use Rattle.lie_audit.specs.WordMatrix.{word_matrix}
+use Rattle.lie_const.specs.Adjoint.{IsAdjointOf}
+use Rattle.lie_const.specs.Modules.{Module, dimension}
+use Rattle.lie_const.specs.Signs.{eta_of}
+use Rattle.lie_datum.specs.Load.{Loads as LoadsDatum}
+use Rattle.lie_datum.specs.RootList.{RootDatum}
+use Rattle.lie_datum.specs.declared.faults.DatumFault.{DatumFault}
+use Rattle.lie_field.specs.Faults.{Loads as LoadsField}
+use Rattle.lie_field.specs.FiniteField.{FiniteField}
+use Rattle.lie_field.specs.Quotient.{FieldData, field_data}
+use Rattle.lie_field.specs.declared.faults.FieldFault.{FieldFault}
+use Rattle.lie_group.specs.Loading.{MakesFrame}
+use Rattle.lie_group.specs.declared.faults.LoadFault.{LoadFault}
+use Rattle.lie_letters.specs.SignedFrames.{SignedFrame}
+use Rattle.lie_letters.specs.declared.letter.Letter.{Letter}
+use Rattle.lie_reply.specs.Commands.{FormTextOf, ConstantTextOf, WeylTextOf}
+use Rattle.lie_reply.specs.Modules.{module_text, matrix_text}
+use Rattle.lie_reply.specs.Texts.{loaded_text, roots_text}
+use Rattle.lie_script.specs.declared.line.Line.{Line}
+use Rattle.lie_script.specs.declared.line.Line.TheVariants as line
+use Rattle.lie_weight.specs.OrbitFaults.{LoadsOrbit}
+use Rattle.lie_weight.specs.declared.faults.ModuleFault.{ModuleFault}
+use Rattle.lie_session.specs.DatumLines.{DatumLines, opened, padded, with_root, with_coroot, is_whole, base_of}
+use Rattle.lie_session.specs.Held.{Setting, LoadedGroup}
+use Rattle.lie_session.specs.Named.{module_of}
+use Rattle.lie_session.specs.declared.faults.CallFault.{CallFault}
+use Rattle.lie_session.specs.declared.faults.CallFault.TheVariants as call
+use Rattle.lie_session.specs.declared.stage.Stage.{Stage}
+use Rattle.lie_session.specs.declared.stage.Stage.TheVariants as stage
+
+-- the stage after a line, with the text of its answer where it has one; or the fault of a call
+abbrev pub Outcome : Type 0
+Outcome = Result (Stage × Option (List ℕ)) CallFault
+
+-- a stage without an answer
+abbrev pub quiet : Stage → Outcome
+quiet at = Ok (at, None)
+
+-- a stage with an answer
+abbrev pub answered : Stage → List ℕ → Outcome
+answered at text = Ok (at, Some text)
+
+-- ---- the lines up to `load`
+
+-- the field is kept
+abbrev pub field_outcome : Result FiniteField FieldFault → Outcome
+field_outcome (Ok F) = quiet (stage.Datum F)
+field_outcome (Err why) = Err (call.Field why)
+
+-- the field of these data is kept
+abbrev pub KeepsField : FieldData → Outcome → Type 0
+KeepsField given r = (x : Result FiniteField FieldFault) × LoadsField given x × (r ≡ field_outcome x)
+
+-- the datum is kept beside the field
+abbrev pub datum_outcome : FiniteField → DatumLines → Result RootDatum DatumFault → Outcome
+datum_outcome F lines (Ok D) = quiet (stage.Load (record { field = F; datum = D }))
+datum_outcome F lines (Err why) = Err (call.Datum lines.rank why)
+
+-- the datum of whole lines is kept
+abbrev pub KeepsDatum : FiniteField → DatumLines → Outcome → Type 0
+KeepsDatum F lines r = (x : Result RootDatum DatumFault) × LoadsDatum (base_of lines) x × (r ≡ datum_outcome F lines x)
+
+-- the frame is that of a group, in which no module has a name
+abbrev pub frame_outcome : Result SignedFrame LoadFault → Outcome
+frame_outcome (Ok g) = answered (stage.Loaded (record { frame = g; modules = [] })) (loaded_text g.field g.datum)
+frame_outcome (Err why) = Err (call.Load why)
+
+-- a text of a form of the word for the frame is the answer, and the stage stays
+abbrev pub PrintsForm : Stage → SignedFrame → List Letter → Outcome → Type 0
+PrintsForm at g w r = (text : List ℕ) × FormTextOf g w text × (r ≡ answered at text)
+
+-- a form of the word is printed for the frame that was made, if one was
+abbrev pub CollectsBy : Setting → List Letter → Result SignedFrame LoadFault → Outcome → Type 0
+CollectsBy setting w (Ok g) r = PrintsForm (stage.Load setting) g w r
+CollectsBy setting w (Err why) r = r ≡ Err (call.Load why)
+
+-- the frame of the field and the datum is made, and a form of the word is printed for it
+abbrev pub Collects : Setting → List Letter → Outcome → Type 0
+Collects setting w r = (x : Result SignedFrame LoadFault) × MakesFrame setting.field setting.datum x × CollectsBy setting w x r
+
+-- the group of the field and the datum is loaded
+abbrev pub LoadsGroup : Setting → Outcome → Type 0
+LoadsGroup setting r = (x : Result SignedFrame LoadFault) × MakesFrame setting.field setting.datum x × (r ≡ frame_outcome x)
+
+-- a line joins the lines of the datum, and the last one completes them
+abbrev pub ReadsDatum : FiniteField → DatumLines → Outcome → Type 0
+ReadsDatum F lines r =
+    MatchBool (is_whole lines) (KeepsDatum F lines r) (r ≡ quiet (stage.Lines F lines))
+
+-- ---- commands
+
+-- the group with one named module more
+abbrev pub with_module : LoadedGroup → List ℕ → Module → LoadedGroup
+with_module g name v = record g { modules = g.modules ++ (name, v) ∷ [] }
+
+-- the module gets the name
+abbrev pub module_outcome : LoadedGroup → List ℕ → Result Module ModuleFault → Outcome
+module_outcome g name (Ok v) = answered (stage.Loaded (with_module g name v)) (module_text name (dimension v))
+module_outcome g name (Err why) = Err (call.Module why)
+
+-- the adjoint module gets the name
+abbrev pub NamesAdjoint : LoadedGroup → List ℕ → Outcome → Type 0
+NamesAdjoint g name r = (v : Module) × IsAdjointOf g.frame.datum v × (r ≡ module_outcome g name (Ok v))
+
+-- the module of the orbit of the weight gets the name
+abbrev pub NamesOrbit : LoadedGroup → List ℕ → List ℤ → Outcome → Type 0
+NamesOrbit g name w r =
+    (x : Result Module ModuleFault) × LoadsOrbit g.frame.datum (eta_of g.frame.signs) (padded w) x × (r ≡ module_outcome g name x)
+
+-- the rows of the matrix of the word on the module of the name; a name that no module has is refused in reading
+abbrev pub SaysMatrix : LoadedGroup → List ℕ → List Letter → Outcome → Type 0
+SaysMatrix g name w r =
+    MatchOption (module_of g.modules name) (r ≡ quiet (stage.Loaded g)) (λ v. r ≡ answered (stage.Loaded g) (matrix_text (word_matrix g.frame.field v w)))
+
+-- a command is answered by a text that has P, and changes nothing
+abbrev pub Says : LoadedGroup → (List ℕ → Type 0) → Outcome → Type 0
+Says g P r = (text : List ℕ) × P text × (r ≡ answered (stage.Loaded g) text)
+
+-- ---- any line
+
+-- What a line leads to at the stage where it is awaited. A silent line changes nothing, and none that isn't awaited would: it is refused in reading.
+abbrev pub Leads : Stage → Line → Outcome → Type 0
+Leads stage.Field (line.Field p k coeffs g) r = KeepsField (field_data p (map nat_abs coeffs) g) r
+Leads (stage.Datum F) (line.Datum d l) r = ReadsDatum F (opened d l) r
+Leads (stage.Lines F lines) (line.Root v) r = ReadsDatum F (with_root lines v) r
+Leads (stage.Lines F lines) (line.Coroot v) r = ReadsDatum F (with_coroot lines v) r
+Leads (stage.Load setting) (line.Collect w) r = Collects setting w r
+Leads (stage.Load setting) line.Load r = LoadsGroup setting r
+Leads (stage.Loaded g) (line.Form w) r = PrintsForm (stage.Loaded g) g.frame w r
+Leads (stage.Loaded g) line.Roots r = r ≡ answered (stage.Loaded g) (roots_text g.frame.datum)
+Leads (stage.Loaded g) (line.Constant p q) r = Says g (ConstantTextOf g.frame.datum p q) r
+Leads (stage.Loaded g) (line.Weyl indices) r = Says g (WeylTextOf g.frame.datum indices) r
+Leads (stage.Loaded g) (line.Adjoint name) r = NamesAdjoint g name r
+Leads (stage.Loaded g) (line.Orbit name w) r = NamesOrbit g name w r
+Leads (stage.Loaded g) (line.Matrix name w) r = SaysMatrix g name w r
+Leads at _ r = r ≡ quiet at

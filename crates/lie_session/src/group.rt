@@ -1,0 +1,249 @@
+//! What a session holds of a group: its field and its datum before `load`, and itself after it.
+ghost use Rattle.std.specs.Prelude.{◌≡◌, ◌≢◌, [], length, None, Ok, IfOk};
+ghost use Rattle.lie_audit.specs.WordMatrix.{IsWordFor};
+ghost use Rattle.lie_const.specs.CommutatorTerms.{IsPair};
+ghost use Rattle.lie_const.specs.Modules.{IsModule, dimension};
+ghost use Rattle.lie_datum.specs.RootDatum.{IsWithin};
+ghost use Rattle.lie_datum.specs.RootList.{IsLoaded};
+ghost use Rattle.lie_reply.specs.Commands.{FormTextOf, ConstantTextOf};
+ghost use Rattle.lie_reply.specs.Modules.{module_text as text_of_module};
+ghost use Rattle.lie_session.specs.DatumLines.{padded as with_zeros};
+ghost use Rattle.lie_session.specs.Named.{module_of};
+
+use crate::datum::padded;
+use crate::faults::CallFault;
+use crate::modules::Modules;
+use lie_audit::word_matrix;
+use lie_bruhat::form;
+use lie_datum::Datum;
+use lie_field::Field;
+use lie_group::{LoadFault, make_frame};
+use lie_letters::{Frame, Word};
+use lie_reply::{constant_text, form_text, matrix_text, module_text, roots_text, weyl_text};
+use lie_script::{Line, Numbers, Text};
+use lie_weight::Module;
+use std::alloc::{AllocError, Global};
+use std::marker::Model;
+
+/// A field and a datum, alone or in the frame that was made of them.
+#[derive(Drop)]
+pub(crate) enum Made {
+    Apart(Field, Datum),
+    Framed(Frame),
+}
+
+/// The field and the datum of a group that may be loaded. Their frame is kept once it was made.
+#[derive(Drop)]
+pub(crate) struct Setting {
+    made: Made,
+}
+
+impl Model for Setting {
+    ghost use Rattle.lie_session.specs.Held.{Setting};
+
+    ghost Value = { Setting };
+
+    ghost use Rattle.lie_session.specs.Settings.{setting_of, IsMade};
+
+    ghost view = { λ s. setting_of s.made };
+
+    ghost invariant = { λ s. IsMade s.made };
+}
+
+impl Setting {
+    ghost use Rattle.lie_group.specs.Loading.{MakesFrame, IsFrameOf};
+
+    /// A field and a datum alone.
+    pub(crate) fn new(field: Field, datum: Datum) -> Setting
+        ensures { result ≡ record { field = field; datum = datum } }
+    {
+        Setting {
+            made: Made::Apart(field, datum),
+        }
+    }
+
+    /// Those of a frame, which is kept.
+    pub(crate) fn of_frame(frame: Frame) -> Setting
+        requires { IsFrameOf frame.field frame.datum frame }
+        ensures { result ≡ record { field = frame.field; datum = frame.datum } }
+    {
+        Setting {
+            made: Made::Framed(frame),
+        }
+    }
+
+    /// The field.
+    pub(crate) fn field(&self) -> &Field
+        ensures { result.now ≡ self.now.field }
+    {
+        match &self.made {
+            Made::Apart(field, _) => field,
+            Made::Framed(frame) => &frame.field,
+        }
+    }
+
+    /// The datum.
+    pub(crate) fn datum(&self) -> &Datum
+        ensures { result.now ≡ self.now.datum }
+    {
+        match &self.made {
+            Made::Apart(_, datum) => datum,
+            Made::Framed(frame) => &frame.datum,
+        }
+    }
+
+    /// The frame: that which is kept, or one that is made now.
+    pub(crate) fn frame(self, alloc: Global) -> Result<Frame, LoadFault>
+        ensures { MakesFrame self.field self.datum result }
+    {
+        let Setting { made } = self;
+        match made {
+            Made::Apart(field, datum) => make_frame(alloc, field, datum),
+            Made::Framed(frame) => Ok(frame),
+        }
+    }
+}
+
+/// The text of a form of a word.
+pub(crate) fn printed(alloc: Global, frame: &Frame, w: &Word) -> Result<Text, AllocError>
+    requires { IsLoaded frame.now.datum → IsWordFor frame.now.field frame.now.datum w.now }
+    ensures { IfOk result (λ text. FormTextOf frame.now w.now text) }
+{
+    frame.lawful();
+    let form = form(alloc, frame, w)?;
+    form_text(alloc, frame, &form)
+}
+
+/// A group with its named modules.
+#[derive(Drop)]
+pub(crate) struct LoadedGroup {
+    frame: Frame,
+    modules: Modules,
+}
+
+impl Model for LoadedGroup {
+    ghost use Rattle.lie_session.specs.Held.{LoadedGroup, AreModules};
+
+    ghost Value = { LoadedGroup };
+
+    ghost view = { λ g. record { frame = g.frame; modules = g.modules.entries } };
+
+    ghost invariant = { λ g. AreModules g.frame g.modules.entries };
+}
+
+impl LoadedGroup {
+    ghost use Rattle.lie_session.specs.Obeyed.{IsAnswered};
+    ghost use Rattle.lie_session.specs.Outcomes.{Leads, NamesAdjoint, NamesOrbit, SaysMatrix, with_module};
+    ghost use Rattle.lie_session.specs.Ready.{Commands};
+    ghost use Rattle.lie_session.specs.declared.stage.Stage.TheVariants.{Loaded as LoadedStage};
+
+    /// The group of a frame, in which no module has a name. It takes no memory.
+    pub(crate) fn new(alloc: Global, frame: Frame) -> LoadedGroup
+        ensures { result ≡ record { frame = frame; modules = [] } }
+    {
+        LoadedGroup {
+            frame,
+            modules: Modules::new(alloc),
+        }
+    }
+
+    /// The field, the datum, the constants and the signs.
+    pub(crate) fn frame(&self) -> &Frame
+        ensures { result.now ≡ self.now.frame }
+    {
+        &self.frame
+    }
+
+    /// The named modules.
+    pub(crate) fn modules(&self) -> &Modules
+        ensures { result.now.entries ≡ self.now.modules }
+    {
+        &self.modules
+    }
+
+    /// The text of the constant and of the terms of two roots.
+    fn constant(&self, alloc: Global, r: i32, s: i32) -> Result<Text, AllocError>
+        requires { IsPair self.now.frame.datum r s }
+        ensures { IfOk result (λ text. ConstantTextOf self.now.frame.datum r s text) }
+    {
+        let frame = &self.frame;
+        constant_text(alloc, &frame.datum, &frame.constants, r, s)
+    }
+
+    /// The rows of the matrix of a word on the module of a name; none where no module has the name.
+    fn matrix(&self, alloc: Global, name: &[u8], w: &Word) -> Result<Option<Text>, AllocError>
+        requires { IsLoaded self.now.frame.datum → IsWordFor self.now.frame.field self.now.frame.datum w.now }
+        ensures { IfOk result (λ text. SaysMatrix self.now name.now w.now (Ok (LoadedStage self.now, text))) }
+    {
+        let Some(module) = self.modules.find(name) else {
+            return Ok(None);
+        };
+        let frame = &self.frame;
+        frame.datum.loaded();
+        let matrix = word_matrix(alloc, &frame.field, &frame.datum, module, w)?;
+        Ok(Some(matrix_text(alloc, &matrix)?))
+    }
+
+    /// Gives a module a new name, and tells it.
+    fn name_module(
+        &mut self,
+        alloc: Global,
+        name: &[u8],
+        module: Module,
+    ) -> Result<Text, AllocError>
+        requires datum { IsModule self.old.frame.datum «module» }
+        requires free { module_of self.old.modules name.now ≡ None }
+        ensures text { IfOk result (λ text. text ≡ text_of_module name.now (dimension «module»)) }
+        ensures named { IfOk result (λ text. self.new ≡ with_module self.old name.now «module») }
+    {
+        let text = module_text(alloc, name, module.dim())?;
+        self.modules.push(alloc, name, module)?;
+        Ok(text)
+    }
+
+    /// Gives the adjoint module a new name.
+    fn name_adjoint(&mut self, alloc: Global, name: &[u8]) -> Result<Option<Text>, CallFault>
+        requires { module_of self.old.modules name.now ≡ None }
+        ensures { IsAnswered (NamesAdjoint self.old name.now) self.old result self.new }
+    {
+        let frame = &self.frame;
+        let module = Module::adjoint(alloc, &frame.datum, &frame.constants)?;
+        Ok(Some(self.name_module(alloc, name, module)?))
+    }
+
+    /// Gives the module of the orbit of a weight a new name.
+    fn name_orbit(
+        &mut self,
+        alloc: Global,
+        name: &[u8],
+        v: &Numbers,
+    ) -> Result<Option<Text>, CallFault>
+        requires long { length v.now ≡ self.old.frame.datum.base.dim }
+        requires small { IsWithin 100 (with_zeros v.now) }
+        requires free { module_of self.old.modules name.now ≡ None }
+        ensures { IsAnswered (NamesOrbit self.old name.now v.now) self.old result self.new }
+    {
+        let frame = &self.frame;
+        frame.datum.loaded();
+        let weight = padded(v.list());
+        let module = Module::orbit(alloc, &frame.datum, &frame.signs, &weight)?;
+        Ok(Some(self.name_module(alloc, name, module)?))
+    }
+
+    /// Does what a command says. Other lines say nothing here.
+    pub(crate) fn obey(&mut self, alloc: Global, line: Line) -> Result<Option<Text>, CallFault>
+        requires { Commands self.old line }
+        ensures { IsAnswered (Leads (LoadedStage self.old) line) self.old result self.new }
+    {
+        match line {
+            Line::Form(w) => Ok(Some(printed(alloc, self.frame(), &w)?)),
+            Line::Roots => Ok(Some(roots_text(alloc, &self.frame().datum)?)),
+            Line::Constant { r, s } => Ok(Some(self.constant(alloc, r, s)?)),
+            Line::Weyl(indices) => Ok(Some(weyl_text(alloc, &self.frame().datum, &indices)?)),
+            Line::Adjoint { name } => self.name_adjoint(alloc, name.bytes()),
+            Line::Orbit { name, v } => self.name_orbit(alloc, name.bytes(), &v),
+            Line::Matrix { name, w } => Ok(self.matrix(alloc, name.bytes(), &w)?),
+            _ => Ok(None),
+        }
+    }
+}

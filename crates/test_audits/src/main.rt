@@ -1,0 +1,24 @@
+//! Audits: each row of standard input is a module to audit, and the program writes beside it what `audit` answers.
+//!
+//! The stored output was worked out by hand from the relations, never by this program; so a wrong value is a difference
+//! of text. Rows are those of `test_rows`. A module is made for the last row `made for`, with the signs of the last row
+//! `made with`, and is audited for the last rows `datum` and `signs`; an adjoint module has the signs that are read off it.
+#![tactic(auto)]
+
+mod audits;
+mod questions;
+
+use crate::questions::answers;
+use std::io;
+
+fn main(rt: HostRuntime) -> io::Result<()> {
+    let alloc = rt.alloc();
+    let mut lines = Vec::new(alloc);
+    for line in rt.lines(alloc) {
+        lines.push(line?)?;
+    }
+    for line in &answers(alloc, &lines)? {
+        println!(rt; "{line}")?;
+    }
+    Ok(())
+}

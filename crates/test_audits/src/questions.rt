@@ -1,0 +1,97 @@
+//! The question of a row, by its words.
+
+use crate::audits::{audit_adjoint, audit_orbit};
+use std::alloc::{AllocError, Global};
+use test_rows::{Answer, Stop, read_lists, roots_of_row, row};
+
+/// What the rows before have said.
+#[derive(Clone, Copy, Drop)]
+pub(crate) struct Said<'a> {
+    made_for: &'a str,
+    made_with: &'a str,
+    datum: &'a str,
+    signs: &'a str,
+}
+
+/// The lines with their answers.
+pub(crate) fn answers(alloc: Global, lines: &[String]) -> Result<Vec<String>, AllocError> {
+    let mut answers = Vec::new(alloc);
+    let mut said = Said {
+        made_for: "",
+        made_with: "",
+        datum: "",
+        signs: "",
+    };
+    for line in lines {
+        said = Said {
+            made_for: newest(line, "made for", said.made_for),
+            made_with: newest(line, "made with", said.made_with),
+            datum: newest(line, "datum", said.datum),
+            signs: newest(line, "signs", said.signs),
+        };
+        answers.push(with_answer(alloc, said, line)?)?;
+    }
+    Ok(answers)
+}
+
+/// The text of a row, where it is about this, and the text before it otherwise.
+fn newest<'a>(line: &'a str, question: &str, before: &'a str) -> &'a str {
+    match row(line) {
+        Some((word, text)) => { if word == question { text } else { before } }
+        None => before,
+    }
+}
+
+/// A line with its answer, or with why it has none.
+fn with_answer(alloc: Global, said: Said, line: &str) -> Result<String, AllocError> {
+    match answered(alloc, said, line) {
+        Ok(answer) => format!(in alloc; "{line}{answer}"),
+        Err(stop) => format!(in alloc; "{line} = {stop}"),
+    }
+}
+
+/// What stands behind a row: its answer, and nothing where it asks nothing.
+fn answered(alloc: Global, said: Said, line: &str) -> Result<String, Stop> {
+    let Some((question, text)) = row(line) else {
+        return Ok(String::new(alloc));
+    };
+    let mut answer = Answer::new(alloc)?;
+    match question {
+        "adjoint" => audit_adjoint(alloc, &roots_of_row(alloc, text)?.datum, &mut answer)?,
+        "orbit" => about_orbit(alloc, said, text, &mut answer)?,
+        _ => return Ok(String::new(alloc)),
+    }
+    Ok(answer.text())
+}
+
+/// Audits the module of an orbit.
+fn about_orbit(alloc: Global, said: Said, text: &str, answer: &mut Answer) -> Result<(), Stop> {
+    let source = roots_of_row(alloc, said.made_for)?;
+    let target = roots_of_row(alloc, said.datum)?;
+    let made_with = signs_of(alloc, said.made_with)?;
+    let signs = signs_of(alloc, said.signs)?;
+    let lists = read_lists(alloc, text, "|")?;
+    let [v] = lists.as_slice() else {
+        return Err(Stop::NoQuestion);
+    };
+    audit_orbit(
+        alloc,
+        &source.datum,
+        &made_with,
+        &target.datum,
+        &signs,
+        v,
+        answer,
+    )
+}
+
+/// The signs of a row: 1 and -1.
+fn signs_of(alloc: Global, text: &str) -> Result<Vec<i8>, Stop> {
+    let mut signs = Vec::new(alloc);
+    for list in &read_lists(alloc, text, "|")? {
+        for n in list {
+            signs.push(if *n < 0 { -1 } else { 1 })?;
+        }
+    }
+    Ok(signs)
+}
