@@ -1,7 +1,7 @@
 -- What holds of the lines that pass their checks.
 use Rattle.std.proofs.Common.{◌≡◌, ◌≢◌, ℕ, ◌+◌, true, List, [], ◌∷◌, length, ℤ, pos, nat_abs, ◌∙◌, arith, Ok, refl, sym, subst, ◌≤◌, Bool, false, Option, Some, None, negsuc, ◌<◌}
 use Rattle.std.specs.Prelude.{◌&&◌, ◌||◌, not, nat_eq, nat_lt, nat_le, is_some, IfOk}
-use Rattle.std.specs.List.{All, AllByRecursion}
+use Rattle.std.specs.List.{All, AllByRecursion, slice_split}
 use Rattle.std.proofs.lemmas.List.{length-take}
 use Rattle.std.proofs.lemmas.List.Elements.{All-take, All-from_recursion}
 use Rattle.std.proofs.lemmas.Bool.{eqb-true}
@@ -13,7 +13,7 @@ use Rattle.lie_script.specs.Checks.{unless, found, none_at}
 use Rattle.lie_script.specs.Fields.{Span, fields_of, foreign_from, begins_with}
 use Rattle.lie_script.specs.Kinds.{field_of, field_line, datum_line, vector, root_line, coroot_line, bare_line, word_line, constant_line, is_dash, weyl_of, weyl_line}
 use Rattle.lie_script.specs.Names.{Listed, dimension_of}
-use Rattle.lie_script.specs.Letters.{word}
+use Rattle.lie_script.specs.Letters.{word, few_letters, letters, is_semicolon, two_sides, two_words}
 use Rattle.lie_script.specs.Modules.{is_name, kind_of, new_name, kind_line, module_line, matrix_line}
 use Rattle.lie_script.specs.Numbers.{is_within, allows, integer, number, numbers, natural}
 use Rattle.lie_script.specs.Reading.{keyword_of, is_command, begins, own_line, spoken, said, reads}
@@ -29,7 +29,7 @@ use Rattle.lie_script.specs.declared.sizes.Sizes.{Sizes}
 use Rattle.lie_script.specs.declared.sizes.Wants.{Wants}
 use Rattle.lie_script.specs.declared.sizes.Wants.TheVariants as wants
 use Rattle.lie_script.proofs.Steps.{unless-ok, bind-all, unless-all, if-all, each-ok, IfOk-from}
-use Rattle.lie_script.proofs.Elements.{word-over}
+use Rattle.lie_script.proofs.Elements.{word-over, letters-over}
 
 -- a number that was read is allowed
 number-allowed : (allowed : Allowed) (field : Span) → IfOk (number allowed field) (λ n. allows allowed n ≡ true)
@@ -56,6 +56,8 @@ awaited_by keyword.Coroot = wants.Coroot
 awaited_by keyword.Collect = wants.Load
 awaited_by keyword.Load = wants.Load
 awaited_by keyword.Form = wants.Command
+awaited_by keyword.Mul = wants.Command
+awaited_by keyword.Inv = wants.Command
 awaited_by keyword.Roots = wants.Command
 awaited_by keyword.Constant = wants.Command
 awaited_by keyword.Weyl = wants.Command
@@ -71,6 +73,8 @@ begun keyword.Coroot wants.Coroot due = refl
 begun keyword.Collect wants.Load due = refl
 begun keyword.Load wants.Load due = refl
 begun keyword.Form wants.Command due = refl
+begun keyword.Mul wants.Command due = refl
+begun keyword.Inv wants.Command due = refl
 begun keyword.Roots wants.Command due = refl
 begun keyword.Constant wants.Command due = refl
 begun keyword.Weyl wants.Command due = refl
@@ -158,6 +162,21 @@ word_line-within : (sizes : Sizes) (fields : List Span) (w : List Letter) → wo
 unfolding word_line
 word_line-within sizes fields w is = word-within sizes fields w (unless-ok (nat_le 1 (length fields)) (At fault.Fields (length fields)) (word sizes fields) w is).1
 
+letters-within : (sizes : Sizes) (fields : List Span) (w : List Letter) → letters sizes fields ≡ Ok w → IsWordWithin sizes w
+letters-within sizes fields w is f q_is has loaded = IfOk-at_ok (IsWordOver f) is (letters-over f sizes fields q_is has loaded)
+
+-- two words
+abbrev AreWithin : Sizes → List Letter × List Letter → Type 0
+AreWithin sizes words = IsWordWithin sizes words.0 × IsWordWithin sizes words.1
+
+-- both words of a line are words of each frame with the sizes
+two_words-within : (sizes : Sizes) (fields : List Span) → IfOk (two_words sizes fields) (AreWithin sizes)
+unfolding two_words
+two_words-within sizes fields =
+    let P = AreWithin sizes in
+    bind-all P (found (two_sides (slice_split is_semicolon fields)) _) _ (λ sides is. bind-all P (few_letters sides.0) _ (λ few is. bind-all P (few_letters sides.1) _ (λ few is.
+    bind-all P (letters sizes sides.0) _ (λ w w_is. bind-all P (letters sizes sides.1) _ (λ v v_is. (letters-within sizes sides.0 w w_is, letters-within sizes sides.1 v v_is))))))
+
 matrix_line-fits : (sizes : Sizes) (listed : Listed) (fields : List Span) → IfOk (matrix_line sizes listed fields) (Fits wants.Command sizes listed)
 unfolding matrix_line
 matrix_line-fits sizes listed [] = tt
@@ -176,6 +195,8 @@ own_line-fits sizes listed keyword.Coroot fields = bind-all (Fits wants.Coroot s
 own_line-fits sizes listed keyword.Collect fields = bind-all (Fits wants.Load sizes listed) (word_line sizes fields) _ (λ w is. (refl, word_line-within sizes fields w is))
 own_line-fits sizes listed keyword.Load fields = unless-all (Fits wants.Load sizes listed) (nat_eq (length fields) 0) _ _ (λ counted. refl)
 own_line-fits sizes listed keyword.Form fields = bind-all (Fits wants.Command sizes listed) (word_line sizes fields) _ (λ w is. (refl, word_line-within sizes fields w is))
+own_line-fits sizes listed keyword.Mul fields = bind-all (Fits wants.Command sizes listed) (two_words sizes fields) _ (λ words are. (refl, IfOk-at_ok (AreWithin sizes) are (two_words-within sizes fields)))
+own_line-fits sizes listed keyword.Inv fields = bind-all (Fits wants.Command sizes listed) (word_line sizes fields) _ (λ w is. (refl, word_line-within sizes fields w is))
 own_line-fits sizes listed keyword.Roots fields = unless-all (Fits wants.Command sizes listed) (nat_eq (length fields) 0) _ _ (λ counted. refl)
 own_line-fits sizes listed keyword.Constant fields = constant_line-fits sizes listed fields
 own_line-fits sizes listed keyword.Module fields = module_line-fits sizes listed fields

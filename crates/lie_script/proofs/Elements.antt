@@ -129,8 +129,12 @@ letter-over f sizes column (b ∷ bytes) q_is has loaded =
     if-all P (nat_eq b 104) _ _ (torus_letter-over f sizes column bytes q_is has) (if-all P (nat_eq b 120) _ _ (root_letter-over f sizes column bytes q_is has)
     (if-all P (nat_eq b 110) _ _ (weyl_letter-over f sizes column bytes has loaded) tt))
 
+-- letters that were read are a word of the frame
+pub letters-over : (f : FrameData) (sizes : Sizes) (fields : List Span) → HasField sizes f.field → HasDatum sizes f.datum → IsLoaded f.datum → IfOk (letters sizes fields) (IsWordOver f)
+unfolding letters letter
+letters-over f sizes fields q_is has loaded = each-all (IsLetterOver f) (letter sizes) (λ field. letter-over f sizes field.column field.bytes q_is has loaded) (filter is_letter fields)
+
 -- a word that was read is a word of the frame
 pub word-over : (f : FrameData) (sizes : Sizes) (fields : List Span) → HasField sizes f.field → HasDatum sizes f.datum → IsLoaded f.datum → IfOk (word sizes fields) (IsWordOver f)
-unfolding word letters letter
-word-over f sizes fields q_is has loaded =
-    bind-all (IsWordOver f) (few_letters fields) (λ few. letters sizes fields) (λ few is. each-all (IsLetterOver f) (letter sizes) (λ field. letter-over f sizes field.column field.bytes q_is has loaded) (filter is_letter fields))
+unfolding word
+word-over f sizes fields q_is has loaded = bind-all (IsWordOver f) (few_letters fields) (λ few. letters sizes fields) (λ few is. letters-over f sizes fields q_is has loaded)

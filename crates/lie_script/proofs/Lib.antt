@@ -2,6 +2,7 @@ pub mod Cutting
 pub mod Digits
 pub mod Loops
 pub mod Pieces
+pub mod Sides
 pub mod Steps
 pub mod Elements
 pub mod AcceptedLemmas

@@ -101,6 +101,16 @@ commands =
     (codes "form", Err (At fault.Fields 0)) ∷
     (codes " fomr 1", Err (At fault.Command 2)) ∷
     (codes "form " ++ 128 ∷ [], Err (At fault.Byte 6)) ∷
+    (codes "mul n1 ; 1", Ok (line.Mul (N 1 ∷ []) [])) ∷
+    (codes "mul 1 n1 ; n1' h(1,2)", Ok (line.Mul (N 1 ∷ []) (Ninv 1 ∷ H (1 ∷ 2 ∷ []) ∷ []))) ∷
+    (codes "mul n1 n1", Err (At fault.Fields 2)) ∷
+    (codes "mul ; n1", Err (At fault.Fields 2)) ∷
+    (codes "mul n1 ;", Err (At fault.Fields 2)) ∷
+    (codes "mul n1 ; n1 ; n1", Err (At fault.Fields 5)) ∷
+    (codes "mul n1 ; n2", Err (At fault.Simple 10)) ∷
+    (codes "mul n1; n1", Err (At fault.Fields 2)) ∷
+    (codes "inv x1(4) n1", Ok (line.Inv (X (pos 1) 4 ∷ N 1 ∷ []))) ∷
+    (codes "inv", Err (At fault.Fields 0)) ∷
     (codes "roots", Ok line.Roots) ∷
     (codes "roots 1", Err (At fault.Fields 1)) ∷
     (codes "weyl 1 01 1", Ok (line.Weyl (pos 1 ∷ pos 1 ∷ pos 1 ∷ []))) ∷
@@ -116,7 +126,7 @@ commands =
     []
 
 commands_read : IsRead wants.Command (record { d = 2; l = 1; m = 1; q = 5; dim = 0; loaded = true }) commands
-unfolding reads fields_of spoken keyword_of own_line field_of field_line vector root_line coroot_line bare_line word_line weyl_line word letters few_letters letter torus_letter root_letter weyl_letter spelled unit spelled_list units number_of integer number numbers natural
+unfolding reads fields_of spoken keyword_of own_line field_of field_line vector root_line coroot_line bare_line word_line weyl_line word two_words letters few_letters letter torus_letter root_letter weyl_letter spelled unit spelled_list units number_of integer number numbers natural
 commands_read = refl
 
 -- words and constants over the field of five, with three positive roots

@@ -5,6 +5,7 @@
 --   h( a , .. , a )   a torus element: d elements that aren't 0, by their numbers
 --   n i , n i '       the Weyl representative of a simple root, and its inverse
 --   1                 as a field of a word: no letter
+--   w ; v             two words: `;` is a field of its own
 use Rattle.std.specs.Prelude.{ℕ, ◌+◌, ℤ, Bool, not, ◌&&◌, nat_eq, nat_lt, nat_le, if◌then◌else◌, List, [], ◌∷◌, length, take, drop, filter, codes, bytes_eq, Option, Some, None, Result, Ok, Err}
 use Rattle.std.specs.List.{slice_split}
 use Rattle.lie_letters.specs.declared.letter.Letter.{Letter}
@@ -128,3 +129,22 @@ unfoldable pub word : Sizes → List Span → Result (List Letter) Fault
 word sizes fields = do
   few ← few_letters fields
   letters sizes fields
+
+-- the field that parts two words
+abbrev pub is_semicolon : Span → Bool
+is_semicolon field = bytes_eq field.bytes (codes ";")
+
+-- exactly one `;`, with fields on each side
+abbrev pub two_sides : List (List Span) → Option (List Span × List Span)
+two_sides ((a ∷ w) ∷ (b ∷ v) ∷ []) = Some (a ∷ w, b ∷ v)
+two_sides _ = None
+
+-- two words with a `;` between, whose letters are counted first
+unfoldable pub two_words : Sizes → List Span → Result (List Letter × List Letter) Fault
+two_words sizes fields = do
+  sides ← found (two_sides (slice_split is_semicolon fields)) (At fault.Fields (length fields))
+  few_first ← few_letters sides.0
+  few_second ← few_letters sides.1
+  w ← letters sizes sides.0
+  v ← letters sizes sides.1
+  Ok (w, v)

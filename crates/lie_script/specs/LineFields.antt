@@ -25,3 +25,8 @@ bytes_of (Some bytes) = Some bytes.now
 abbrev pub pieces_of : Option (List ℕ) → List (List ℕ)
 pieces_of None = []
 pieces_of (Some bytes) = slice_split is_comma bytes
+
+-- the fields on both sides
+abbrev pub sides_of : Option (Bor (List LineField) × Bor (List LineField)) → Option (List Span × List Span)
+sides_of None = None
+sides_of (Some sides) = Some (spans sides.0.now, spans sides.1.now)

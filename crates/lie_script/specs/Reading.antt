@@ -13,6 +13,7 @@ use Rattle.std.specs.Map.{lookup}
 use Rattle.lie_script.specs.Fields.{Span, fields_of, foreign_from, begins_with}
 use Rattle.lie_script.specs.Checks.{◌>>=◌, unless, found, none_at}
 use Rattle.lie_script.specs.Kinds.{field_line, datum_line, root_line, coroot_line, bare_line, word_line, constant_line, weyl_line}
+use Rattle.lie_script.specs.Letters.{two_words}
 use Rattle.lie_script.specs.Modules.{module_line, matrix_line}
 use Rattle.lie_script.specs.Names.{Listed}
 use Rattle.lie_script.specs.declared.faults.FaultName.TheVariants as fault
@@ -31,7 +32,7 @@ abbrev pub keywords : List (List ℕ × Keyword)
 keywords =
     (codes "field", keyword.Field) ∷ (codes "datum", keyword.Datum) ∷ (codes "root", keyword.Root)
     ∷ (codes "coroot", keyword.Coroot) ∷ (codes "collect", keyword.Collect) ∷ (codes "load", keyword.Load)
-    ∷ (codes "form", keyword.Form) ∷ (codes "roots", keyword.Roots) ∷ (codes "constant", keyword.Constant) ∷ (codes "weyl", keyword.Weyl)
+    ∷ (codes "form", keyword.Form) ∷ (codes "mul", keyword.Mul) ∷ (codes "inv", keyword.Inv) ∷ (codes "roots", keyword.Roots) ∷ (codes "constant", keyword.Constant) ∷ (codes "weyl", keyword.Weyl)
     ∷ (codes "module", keyword.Module) ∷ (codes "matrix", keyword.Matrix) ∷ []
 
 -- the word that the bytes spell
@@ -77,6 +78,12 @@ own_line sizes listed keyword.Load fields = bare_line line.Load fields
 own_line sizes listed keyword.Form fields = do
   w ← word_line sizes fields
   Ok (line.Form w)
+own_line sizes listed keyword.Mul fields = do
+  words ← two_words sizes fields
+  Ok (line.Mul words.0 words.1)
+own_line sizes listed keyword.Inv fields = do
+  w ← word_line sizes fields
+  Ok (line.Inv w)
 own_line sizes listed keyword.Roots fields = bare_line line.Roots fields
 own_line sizes listed keyword.Constant fields = constant_line sizes fields
 own_line sizes listed keyword.Weyl fields = weyl_line sizes fields

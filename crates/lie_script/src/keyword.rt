@@ -14,6 +14,8 @@ pub enum Keyword {
     Collect,
     Load,
     Form,
+    Mul,
+    Inv,
     Roots,
     Constant,
     Weyl,
@@ -67,6 +69,10 @@ pub(crate) fn keyword_of(bytes: &[u8]) -> Option<Keyword>
         Some(Keyword::Load)
     } else if bytes == b"form".as_slice() {
         Some(Keyword::Form)
+    } else if bytes == b"mul".as_slice() {
+        Some(Keyword::Mul)
+    } else if bytes == b"inv".as_slice() {
+        Some(Keyword::Inv)
     } else if bytes == b"roots".as_slice() {
         Some(Keyword::Roots)
     } else if bytes == b"constant".as_slice() {

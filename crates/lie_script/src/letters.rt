@@ -1,11 +1,11 @@
 //! Letters and words.
 ghost use Rattle.std.specs.Prelude.{◌≡◌, ◌<◌, ◌≤◌, ◌∷◌, [], if◌then◌else◌, nat_lt, length, Some, None, IfOk, IfSome, filter, Ok};
-ghost use Rattle.std.specs.List.{slice_split};
+ghost use Rattle.std.specs.List.{slice_split, position_or_len};
 ghost use Rattle.lie_field.specs.Quotient.{order};
 ghost use Rattle.lie_letters.specs.Entries.{AreUnits};
 ghost use Rattle.lie_script.specs.Checks.{Gives};
-ghost use Rattle.lie_script.specs.Letters.{is_comma, spelled as spelled_read, element as element_read, unit as unit_read, root as root_read, root_element as root_element_read, root_letter as root_letter_read, simple as simple_read, weyl_letter as weyl_letter_read, spelled_list as spelled_list_read, units as units_read, torus_letter as torus_letter_read, letter as letter_read, is_letter as letter_field, few_letters as few_letters_read, letters as letters_read, word as word_read};
-ghost use Rattle.lie_script.specs.LineFields.{span, spans, bytes_of, pieces_of};
+ghost use Rattle.lie_script.specs.Letters.{is_comma, spelled as spelled_read, element as element_read, unit as unit_read, root as root_read, root_element as root_element_read, root_letter as root_letter_read, simple as simple_read, weyl_letter as weyl_letter_read, spelled_list as spelled_list_read, units as units_read, torus_letter as torus_letter_read, letter as letter_read, is_letter as letter_field, few_letters as few_letters_read, letters as letters_read, word as word_read, is_semicolon as semicolon, two_sides as both_sides, two_words as two_words_read};
+ghost use Rattle.lie_script.specs.LineFields.{span, spans, bytes_of, pieces_of, sides_of};
 ghost use Rattle.lie_script.specs.Setting.{HasField, HasDatum};
 
 use crate::faults::{Fault, FaultName, Stop};
@@ -313,4 +313,62 @@ pub(crate) fn word(
 {
     few_letters(fields)?;
     letters(alloc, sizes, field, datum, fields)
+}
+
+/// Whether a field is `;`.
+fn is_semicolon(field: &LineField<'_>) -> bool
+    ensures { result ≡ semicolon (span field.now) }
+{
+    field.bytes == b";".as_slice()
+}
+
+/// The place of the first `;`, or the end.
+fn semicolon_at(fields: &[LineField<'_>]) -> usize
+    ensures place { result ≡ position_or_len semicolon (spans fields.now) }
+    ensures bound { result ≤ length fields.now }
+{
+    for (i, field) in fields.iter().enumerate() {
+        if is_semicolon(field) {
+            return i;
+        }
+    }
+    fields.len()
+}
+
+/// The fields on both sides of the only `;`.
+fn two_sides<'a, 'b>(
+    fields: &'b [LineField<'a>],
+) -> Option<(&'b [LineField<'a>], &'b [LineField<'a>])>
+    ensures { sides_of result ≡ both_sides (slice_split semicolon (spans fields.now)) }
+{
+    let at = semicolon_at(fields);
+    if at == 0 || at + 1 >= fields.len() {
+        return None;
+    }
+    let second = &fields[at + 1..];
+    if semicolon_at(second) < second.len() {
+        return None;
+    }
+    Some((&fields[..at], second))
+}
+
+/// Two words with a `;` between, whose letters are counted first.
+#[tactic(auto, unfolding(crate::specs::Letters::two_words))]
+pub(crate) fn two_words(
+    alloc: Global,
+    sizes: &Sizes,
+    field: &Field,
+    datum: &Datum,
+    fields: &[LineField<'_>],
+) -> Result<(Word, Word), Stop>
+    requires field { HasField sizes.now field.now }
+    requires datum { HasDatum sizes.now datum.now }
+    ensures { Gives (λ words. (words.0, words.1)) result (two_words_read sizes.now (spans fields.now)) }
+{
+    let (first, second) = two_sides(fields).ok_or(Fault::At(FaultName::Fields, fields.len()))?;
+    few_letters(first)?;
+    few_letters(second)?;
+    let w = letters(alloc, sizes, field, datum, first)?;
+    let v = letters(alloc, sizes, field, datum, second)?;
+    Ok((w, v))
 }

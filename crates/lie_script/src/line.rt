@@ -25,6 +25,13 @@ pub enum Line {
     Collect(Word),
     Load,
     Form(Word),
+    /// Two words, of which the product is meant.
+    Mul {
+        w: Word,
+        v: Word,
+    },
+    /// A word, of which the inverse is meant.
+    Inv(Word),
     Roots,
     /// The signed numbers of two roots, neither equal nor opposite.
     Constant {

@@ -14,6 +14,7 @@ use crate::keyword::{Keyword, keyword_of};
 use crate::kinds::{
     bare_line, constant_line, coroot_line, datum_line, field_line, root_line, weyl_line, word_line,
 };
+use crate::letters::two_words;
 use crate::line::Line;
 use crate::modules::{matrix_line, module_line};
 use crate::names::Names;
@@ -68,6 +69,15 @@ fn own_line<N: Names>(
         Keyword::Form => {
             let (field, datum) = both(field, datum);
             Ok(Line::Form(word_line(alloc, sizes, field, datum, spelled)?))
+        }
+        Keyword::Mul => {
+            let (field, datum) = both(field, datum);
+            let (w, v) = two_words(alloc, sizes, field, datum, spelled)?;
+            Ok(Line::Mul { w, v })
+        }
+        Keyword::Inv => {
+            let (field, datum) = both(field, datum);
+            Ok(Line::Inv(word_line(alloc, sizes, field, datum, spelled)?))
         }
         Keyword::Roots => Ok(bare_line(Line::Roots, spelled)?),
         Keyword::Constant => {
