@@ -1,5 +1,5 @@
 -- A line at one stage leads to one outcome, want of memory aside, up to constants that say the same and to forms of one word.
-use Rattle.std.proofs.Common.{◌≡◌, ◌≢◌, ℕ, Bool, true, false, List, [], Option, Some, None, Result, Ok, Err, refl, sym, ap, ◌∙◌, subst, inl, inr}
+use Rattle.std.proofs.Common.{◌≡◌, ◌≢◌, ℕ, Bool, true, false, List, [], ◌++◌, Option, Some, None, Result, Ok, Err, refl, sym, ap, ◌∙◌, subst, inl, inr}
 use Rattle.std.specs.Prelude.{⊤, MatchOption, map, nat_abs}
 use Rattle.std.specs.Bool.{MatchBool}
 use Rattle.std.specs.Option.{IfSome, IsSome}
@@ -25,6 +25,7 @@ use Rattle.lie_group.specs.declared.faults.LoadFault.{LoadFault}
 use Rattle.lie_group.specs.declared.faults.LoadFault.TheVariants as load_fault
 use Rattle.lie_group.proofs.OneFrame.{one_frame}
 use Rattle.lie_letters.specs.SignedFrames.{SignedFrame}
+use Rattle.lie_letters.specs.Spelled.{reversed}
 use Rattle.lie_letters.specs.declared.letter.Letter.{Letter}
 use Rattle.lie_reply.specs.Commands.{FormTextOf}
 use Rattle.lie_reply.specs.Modules.{module_text, matrix_text}
@@ -37,11 +38,12 @@ use Rattle.lie_weight.specs.OrbitFaults.{LoadsOrbit}
 use Rattle.lie_weight.specs.declared.faults.ModuleFault.{ModuleFault}
 use Rattle.lie_weight.specs.declared.faults.ModuleFault.TheVariants as orbit_fault
 use Rattle.lie_weight.proofs.OneOrbitAnswer.{one_answer as one_orbit}
+use Rattle.lie_session.specs.Asked.{asked_word}
 use Rattle.lie_session.specs.DatumLines.{DatumLines, opened, padded, with_root, with_coroot, is_whole, base_of}
 use Rattle.lie_session.specs.Faults.{field_words, datum_words, load_words, module_words, words_of}
 use Rattle.lie_session.specs.Held.{Setting, LoadedGroup}
 use Rattle.lie_session.specs.Named.{Named, module_of}
-use Rattle.lie_session.specs.Outcomes.{Outcome, quiet, answered, field_outcome, datum_outcome, frame_outcome, module_outcome, with_module, KeepsDatum, CollectsBy, Leads}
+use Rattle.lie_session.specs.Outcomes.{Outcome, quiet, answered, field_outcome, datum_outcome, frame_outcome, module_outcome, with_module, KeepsDatum, PrintsForm, CollectsBy, Leads}
 use Rattle.lie_session.specs.declared.faults.CallFault.TheVariants as call
 use Rattle.lie_session.specs.State.{field_of, datum_of}
 use Rattle.lie_session.specs.declared.faults.CallFault.TheVariants as call
@@ -58,12 +60,12 @@ pub data IsSameStage : Stage → Stage → Type 0 where
   equal : (at : Stage) → IsSameStage at at
   groups : (g : LoadedGroup) (c : ConstantTable) → IsSameTable g.frame.datum g.frame.constants c → IsSameStage (stage.Loaded g) (stage.Loaded (with_constants g c))
 
--- two texts that answer `form` or `collect`: of forms of its word, for frames that say the same
+-- two texts that answer a line that asks for a form: of forms of its word, for frames that say the same
 pub record AreFormTexts (at : Stage) (said : Line) (t u : List ℕ) : Type 0 where
   pub word : List Letter
-  pub says : (said ≡ line.Form word) ⊎ (said ≡ line.Collect word)
   pub frame : SignedFrame
   pub other : SignedFrame
+  pub asks : asked_word frame.field said ≡ Some word
   pub field_is : field_of at ≡ Some frame.field
   pub datum_is : datum_of at ≡ Some frame.datum
   pub same : IsSameFrame frame other
@@ -194,9 +196,9 @@ collect_once setting w (Ok g) (Ok h) r q loaded m k a b c d =
       equal (stage.Load setting),
       inr (record {
         word = w;
-        says = inr refl;
         frame = g;
         other = h;
+        asks = refl;
         field_is = ap Some (sym m.field);
         datum_is = ap Some (sym m.datum);
         same = one_frame setting.field setting.datum (Ok g) (Ok h) loaded m k (frame_ok g) (frame_ok h);
@@ -256,24 +258,31 @@ module _ (g : LoadedGroup) (c : ConstantTable) (table : IsSameTable g.frame.datu
   matrix_once text None r q a b = same_quiet r q a b
   matrix_once text (Some v) r q a b = same_answer r q (text v) (text v) a b refl
 
+  -- forms of one word
+  form_once : (w : List Letter) (r q : Outcome) → asked_word g.frame.field said ≡ Some w → PrintsForm (stage.Loaded g) g.frame w r → PrintsForm (stage.Loaded (with_constants g c)) (record g.frame { constants = c }) w q
+      → IsSameOutcome (stage.Loaded g) said r q
+  form_once w r q asks x y =
+      by_both (stage.Loaded g) said r q (answered (stage.Loaded g) x.0) (answered (stage.Loaded (with_constants g c)) y.0) x.2 y.2 (
+        groups g c table,
+        inr (record {
+          word = w;
+          frame = g.frame;
+          other = record g.frame { constants = c };
+          asks = asks;
+          field_is = refl;
+          datum_is = refl;
+          same = record { field = refl; datum = refl; constants = table; signs = refl };
+          left = x.1;
+          right = y.1;
+        }),
+      )
+
 -- commands
 loaded_once : (g : LoadedGroup) (c : ConstantTable) → IsSameTable g.frame.datum g.frame.constants c → (said : Line) (r q : Outcome) → IsLoaded g.frame.datum → IsTold r → IsTold q
     → Leads (stage.Loaded g) said r → Leads (stage.Loaded (with_constants g c)) said q → IsSameOutcome (stage.Loaded g) said r q
-loaded_once g c table (line.Form w) r q loaded a b x y =
-    by_both (stage.Loaded g) (line.Form w) r q (answered (stage.Loaded g) x.0) (answered (stage.Loaded (with_constants g c)) y.0) x.2 y.2 (
-      groups g c table,
-      inr (record {
-        word = w;
-        says = inl refl;
-        frame = g.frame;
-        other = record g.frame { constants = c };
-        field_is = refl;
-        datum_is = refl;
-        same = record { field = refl; datum = refl; constants = table; signs = refl };
-        left = x.1;
-        right = y.1;
-      }),
-    )
+loaded_once g c table (line.Form w) r q loaded a b x y = form_once g c table (line.Form w) w r q refl x y
+loaded_once g c table (line.Mul w v) r q loaded a b x y = form_once g c table (line.Mul w v) (w ++ v) r q refl x y
+loaded_once g c table (line.Inv w) r q loaded a b x y = form_once g c table (line.Inv w) (reversed g.frame.field w) r q refl x y
 loaded_once g c table line.Roots r q loaded a b x y = same_answer g c table line.Roots r q _ _ x y refl
 loaded_once g c table (line.Constant p t) r q loaded a b x y = same_answer g c table (line.Constant p t) r q x.0 y.0 x.2 y.2 (one_constant_text g.frame.datum p t x.0 y.0 loaded x.1 y.1)
 loaded_once g c table (line.Weyl indices) r q loaded a b x y = same_answer g c table (line.Weyl indices) r q x.0 y.0 x.2 y.2 (one_weyl_text g.frame.datum indices x.0 y.0 loaded x.1 y.1)

@@ -8,7 +8,6 @@ use Rattle.lie_script.specs.Texts.{line_fault, refusal, name_of}
 use Rattle.lie_script.specs.declared.faults.Fault.{Fault}
 use Rattle.lie_script.specs.declared.faults.FaultName.TheVariants as fault
 use Rattle.lie_script.specs.declared.line.Line.{Line}
-use Rattle.lie_script.specs.declared.line.Line.TheVariants as line
 use Rattle.lie_session.specs.Faults.{Words, words_of}
 use Rattle.lie_session.specs.Lines.{lines_of}
 use Rattle.lie_session.specs.Named.{listed_of}
@@ -143,24 +142,19 @@ alike_from s bytes said a b says (inl same) = inl same
 alike_from s bytes said a b says (inr forms) =
     let texts = forms.2 in
     inr (record {
+      said = said;
+      says = says;
       word = texts.word;
-      says = says_so texts.says;
       frame = texts.frame;
       other = texts.other;
+      asks = texts.asks;
       field_is = texts.field_is;
       datum_is = texts.datum_is;
       same = texts.same;
       kinds = (forms.0, forms.1);
       left = texts.left;
       right = texts.right;
-    }) where
-      says_so : (said ≡ line.Form forms.2.word) ⊎ (said ≡ line.Collect forms.2.word) → SaysLine s bytes (line.Form forms.2.word) ⊎ SaysLine s bytes (line.Collect forms.2.word)
-      says_so (inl is) = inl (says ∙ ap (λ z. read_as z) is) where
-        read_as : Line → Result Line Fault
-        read_as z = Ok z
-      says_so (inr is) = inr (says ∙ ap (λ z. read_as z) is) where
-        read_as : Line → Result Line Fault
-        read_as z = Ok z
+    })
 
 -- two replies, with one state after them
 abbrev AreReplied : State → List ℕ → Reply → Reply → State → State → Type 0
@@ -275,10 +269,9 @@ one_output_up_to_forms mode input out other status status' h k =
 
 no_forms : (s : State) (bytes : List ℕ) (a b : Reply) → AsksNoForm bytes → (a ≡ b) ⊎ AreForms s bytes a b → a ≡ b
 no_forms s bytes a b none (inl same) = same
-no_forms s bytes a b none (inr forms) = absurd (neither forms.says) where
-  neither : SaysLine s bytes (line.Form forms.word) ⊎ SaysLine s bytes (line.Collect forms.word) → ⊥
-  neither (inl says) = (none s forms.word).0 says
-  neither (inr says) = (none s forms.word).1 says
+no_forms s bytes a b none (inr forms) = absurd (no_word (sym (none s forms.said forms.frame.field forms.says) ∙ forms.asks)) where
+  no_word : None ≡ Some forms.word → ⊥
+  no_word e = absurd cc
 
 equal_alike : (mode : Mode) (s : State) (n : ℕ) (lines : List (List ℕ)) (a b : List Reply) → AllByRecursion AsksNoForm lines → AreAlike mode s n lines a b → a ≡ b
 equal_alike mode s n [] a b none h = h.0 ∙ sym h.1
@@ -290,7 +283,7 @@ equal_alike mode s n (bytes ∷ lines) a b none h = by_rest (rests mode s) h (λ
   by_rest true h on = h.0 ∙ sym h.1
   by_rest false h on = h.7 ∙ ap₂ (λ (r : Reply) (z : List Reply). r ∷ z) (no_forms s bytes h.0 h.1 none.0 h.6) (on h.2 h.3 h.4 h.9) ∙ sym h.8
 
--- a script without lines `form` and `collect` has one output alone
+-- a script that asks for no form has one output alone
 pub one_output_without_forms : OneOutputWithoutForms
 one_output_without_forms mode input out other status status' none h k =
     let runs = one_script mode input h.0 k.0 h.1 k.1 in

@@ -1,28 +1,38 @@
--- The replies to `form` and `collect`.
-use Rattle.std.proofs.Common.{◌≡◌, ℕ, Bool, true, false, cond, List, Some, refl, sym, ap, ◌∙◌, subst, ◌⊎◌, inl, inr, Result, Ok, Err}
+-- The replies to lines that ask for forms.
+use Rattle.std.proofs.Common.{◌≡◌, ℕ, Bool, true, false, cond, List, [], ◌++◌, Some, None, refl, sym, ap, ◌∙◌, subst, ◌⊎◌, inl, inr, Result, Ok, Err}
 use Rattle.std.specs.Prelude.{◌↔◌}
 use Rattle.std.specs.Option.{IsSomeAnd}
 use Rattle.std.proofs.lemmas.Result.{IfOk-at_ok}
 use Rattle.lie_audit.specs.WordMatrix.{frame_with}
+use Rattle.lie_bruhat.proofs.PassLemmas.{first_over, IsWordOver-both}
+use Rattle.lie_bruhat.proofs.RulesHold.{reversed_cancels}
+use Rattle.lie_field.specs.FiniteField.{FiniteField}
 use Rattle.lie_group.specs.Loading.{MakesFrame}
 use Rattle.lie_group.specs.declared.faults.LoadFault.{LoadFault}
-use Rattle.lie_letters.specs.SignedFrames.{SignedFrame}
+use Rattle.lie_letters.specs.SignedFrames.{SignedFrame, unsigned}
+use Rattle.lie_letters.specs.Spelled.{IsWordOver, reversed}
 use Rattle.lie_letters.specs.declared.letter.Letter.{Letter}
+use Rattle.lie_letters.proofs.BridgeLemmas.{IsWordOver-append}
 use Rattle.lie_reply.specs.Commands.{FormTextOf}
 use Rattle.lie_reply.proofs.TextLemmas.{replies_tell_words}
-use Rattle.lie_script.specs.Accepted.{Fits}
+use Rattle.lie_script.specs.Accepted.{IsWordWithin, Fits}
+use Rattle.lie_script.specs.Names.{Listed}
 use Rattle.lie_script.specs.declared.line.Line.{Line}
 use Rattle.lie_script.specs.declared.line.Line.TheVariants as line
+use Rattle.lie_script.specs.declared.sizes.Sizes.{Sizes}
 use Rattle.lie_script.specs.declared.sizes.Wants.TheVariants as wants
 use Rattle.lie_script.proofs.CallerLemmas.{accepted-fits}
+use Rattle.lie_session.specs.Asked.{asked_word}
 use Rattle.lie_session.specs.Held.{Setting, LoadedGroup}
 use Rattle.lie_session.specs.Loaded.{HasGroup}
 use Rattle.lie_session.specs.Named.{listed_of}
-use Rattle.lie_session.specs.Outcomes.{Outcome, answered, CollectsBy}
+use Rattle.lie_session.specs.Outcomes.{Outcome, answered, PrintsForm, CollectsBy, Leads}
 use Rattle.lie_session.specs.Printed.{Prints, AnswersForm, PrintsOrRefuses, CollectsForm, FormsAreJoined, EqualRepliesAreJoined}
+use Rattle.lie_session.specs.Output.{RepliesTo}
 use Rattle.lie_session.specs.Replies.{Accepts, Refuses, Tells, Does, DoesRead, Replies, SaysLine}
-use Rattle.lie_session.specs.State.{State, modules_of, wants_of, sizes_of}
+use Rattle.lie_session.specs.State.{State, fresh, modules_of, wants_of, sizes_of}
 use Rattle.lie_session.specs.declared.faults.CallFault.TheVariants as call
+use Rattle.lie_session.specs.declared.mode.Mode.{Mode}
 use Rattle.lie_session.specs.declared.reply.Reply.{Reply}
 use Rattle.lie_session.specs.declared.stage.Stage.{Stage}
 use Rattle.lie_session.specs.declared.stage.Stage.TheVariants as stage
@@ -32,45 +42,97 @@ use Rattle.lie_session.proofs.LoadedLemmas.{IsReached, reached_to}
 abbrev state_at : Stage → ℕ → Bool → State
 state_at at k ended = record { stage = at; refusals = k; ended = ended }
 
--- ---- `form`
+-- ---- forms of a loaded group
 
-module _ (g : LoadedGroup) (there : HasGroup g) (k : ℕ) (ended : Bool) (n : ℕ) (bytes : List ℕ) (w : List Letter) (says : SaysLine (state_at (stage.Loaded g) k ended) bytes (line.Form w)) where
+-- the word that is asked for is one
+one_word : (w v : List Letter) → Some w ≡ Some v → w ≡ v
+one_word w v e = cc
+
+no_word : (w : List Letter) → None ≡ Some w → ⊥
+no_word w e = absurd cc
+
+by_word : (g : LoadedGroup) (v w : List Letter) (r : Outcome) → v ≡ w → PrintsForm (stage.Loaded g) g.frame v r ↔ PrintsForm (stage.Loaded g) g.frame w r
+by_word g v w r e = (subst (λ (u : List Letter). PrintsForm (stage.Loaded g) g.frame u r) e, subst (λ (u : List Letter). PrintsForm (stage.Loaded g) g.frame u r) (sym e))
+
+-- a line that is awaited and asks for a form leads to the text of one
+print_leads : (g : LoadedGroup) (sizes : Sizes) (listed : Listed) (said : Line) (w : List Letter) (r : Outcome) → Fits wants.Command sizes listed said → asked_word g.frame.field said ≡ Some w
+    → Leads (stage.Loaded g) said r ↔ PrintsForm (stage.Loaded g) g.frame w r
+print_leads g sizes listed (line.Form v) w r fits is = by_word g v w r (one_word v w is)
+print_leads g sizes listed (line.Mul u v) w r fits is = by_word g (u ++ v) w r (one_word (u ++ v) w is)
+print_leads g sizes listed (line.Inv v) w r fits is = by_word g (reversed g.frame.field v) w r (one_word (reversed g.frame.field v) w is)
+print_leads g sizes listed (line.Collect v) w r fits is = absurd (clash fits.0) where
+  clash : wants.Command ≡ wants.Load → ⊥
+  clash e = absurd cc
+print_leads g sizes listed said w r fits is = absurd (no_word w is)
+
+module _ (g : LoadedGroup) (k : ℕ) (ended : Bool) (n : ℕ) (bytes : List ℕ) (said : Line) (w : List Letter) (says : SaysLine (state_at (stage.Loaded g) k ended) bytes said)
+    (fits : Fits wants.Command (sizes_of (stage.Loaded g)) (listed_of g.modules) said) (asks : asked_word g.frame.field said ≡ Some w) where
   form_does : (reply : Reply) (next : State) → Replies (state_at (stage.Loaded g) k ended) n bytes reply next ↔ Prints (state_at (stage.Loaded g) k ended) g.frame w reply next
   form_does reply next = (forward, backward) where
     forward : Replies (state_at (stage.Loaded g) k ended) n bytes reply next → Prints (state_at (stage.Loaded g) k ended) g.frame w reply next
     forward r =
-        let d : Does (state_at (stage.Loaded g) k ended) n (line.Form w) reply next = subst (DoesRead (state_at (stage.Loaded g) k ended) n reply next) says r.told in
-        (d.1.0, d.1.1, subst (λ x. Tells (state_at (stage.Loaded g) k ended) n x reply next) d.1.2 d.2)
+        let d : Does (state_at (stage.Loaded g) k ended) n said reply next = subst (DoesRead (state_at (stage.Loaded g) k ended) n reply next) says r.told in
+        let p = (print_leads g (sizes_of (stage.Loaded g)) (listed_of g.modules) said w d.0 fits asks).0 d.1 in
+        (p.0, p.1, subst (λ x. Tells (state_at (stage.Loaded g) k ended) n x reply next) p.2 d.2)
 
     backward : Prints (state_at (stage.Loaded g) k ended) g.frame w reply next → Replies (state_at (stage.Loaded g) k ended) n bytes reply next
-    backward p = record { told = subst (DoesRead (state_at (stage.Loaded g) k ended) n reply next) (sym says) (answered (stage.Loaded g) p.0, (p.0, p.1, refl), p.2) }
+    backward p =
+        let out = answered (stage.Loaded g) p.0 in
+        let led = (print_leads g (sizes_of (stage.Loaded g)) (listed_of g.modules) said w out fits asks).1 (p.0, p.1, refl) in
+        record { told = subst (DoesRead (state_at (stage.Loaded g) k ended) n reply next) (sym says) (out, led, p.2) }
 
-  form_from : Fits (wants_of (stage.Loaded g)) (sizes_of (stage.Loaded g)) (listed_of g.modules) (line.Form w) → AnswersForm (state_at (stage.Loaded g) k ended) n bytes w
-  form_from fits = record {
-    group = g;
-    stage_is = refl;
-    loaded = there;
-    word = λ c. fits.1 (frame_with g.frame.field g.frame.datum c) refl (record { d_is = refl; l_is = refl; m_is = refl }) there.frame.lawful.lawful.loaded;
-    answers = form_does;
-  }
+-- a line that asks for a form in a loaded group
+form_from : (g : LoadedGroup) (k : ℕ) (ended : Bool) (n : ℕ) (bytes : List ℕ) (said : Line) (w : FiniteField → List Letter) → HasGroup g → SaysLine (state_at (stage.Loaded g) k ended) bytes said
+    → Fits wants.Command (sizes_of (stage.Loaded g)) (listed_of g.modules) said → asked_word g.frame.field said ≡ Some (w g.frame.field) → IsWordOver (unsigned g.frame) (w g.frame.field)
+    → AnswersForm (state_at (stage.Loaded g) k ended) n bytes w
+form_from g k ended n bytes said w there says fits asks over = record {
+  group = g;
+  stage_is = refl;
+  loaded = there;
+  word = over;
+  answers = form_does g k ended n bytes said (w g.frame.field) says fits asks;
+}
 
 no_command : (b : Bool) → cond b wants.Root wants.Coroot ≡ wants.Command → ⊥
 no_command true h = absurd cc
 no_command false h = absurd cc
 
-form_at : (at : Stage) (k : ℕ) (ended : Bool) (n : ℕ) (bytes : List ℕ) (w : List Letter) → IsReached at → Fits (wants_of at) (sizes_of at) (listed_of (modules_of at)) (line.Form w)
-    → SaysLine (state_at at k ended) bytes (line.Form w) → AnswersForm (state_at at k ended) n bytes w
-form_at stage.Field k ended n bytes w there fits says = absurd (clash fits.0) where
-  clash : wants.Field ≡ wants.Command → ⊥
+-- a command is awaited where a group is loaded
+loaded_at : (at : Stage) → wants_of at ≡ wants.Command → (g : LoadedGroup) × (at ≡ stage.Loaded g)
+loaded_at stage.Field h = absurd cc
+loaded_at (stage.Datum F) h = absurd cc
+loaded_at (stage.Lines F lines) h = absurd (no_command _ h)
+loaded_at (stage.Load setting) h = absurd cc
+loaded_at (stage.Loaded g) h = (g, refl)
+
+-- a word that was read is one of the group
+word_read : (g : LoadedGroup) (w : List Letter) → HasGroup g → IsWordWithin (sizes_of (stage.Loaded g)) w → IsWordOver (unsigned g.frame) w
+word_read g w there within = within (unsigned g.frame) refl (record { d_is = refl; l_is = refl; m_is = refl }) there.frame.lawful.lawful.loaded
+
+-- the word that a command asks for is one of the group
+word_asked : (g : LoadedGroup) (said : Line) (w : List Letter) → HasGroup g → Fits wants.Command (sizes_of (stage.Loaded g)) (listed_of g.modules) said → asked_word g.frame.field said ≡ Some w
+    → IsWordOver (unsigned g.frame) w
+word_asked g (line.Form v) w there fits is = subst (IsWordOver (unsigned g.frame)) (one_word v w is) (word_read g v there fits.1)
+word_asked g (line.Mul u v) w there fits is =
+    subst (IsWordOver (unsigned g.frame)) (one_word (u ++ v) w is) (IsWordOver-both g.frame u v (word_read g u there fits.1) (word_read g v there fits.2))
+word_asked g (line.Inv v) w there fits is =
+    let r = reversed g.frame.field v in
+    let lawful = there.frame.lawful in
+    subst (IsWordOver (unsigned g.frame)) (one_word r w is)
+    (IsWordOver-append (unsigned g.frame) v r (first_over g.frame (v ++ r) [] (reversed_cancels g.frame v lawful (word_read g v there fits.1)))).1
+word_asked g (line.Collect v) w there fits is = absurd (clash fits.0) where
+  clash : wants.Command ≡ wants.Load → ⊥
   clash e = absurd cc
-form_at (stage.Datum F) k ended n bytes w there fits says = absurd (clash fits.0) where
-  clash : wants.Datum ≡ wants.Command → ⊥
-  clash e = absurd cc
-form_at (stage.Lines F lines) k ended n bytes w there fits says = absurd (no_command _ fits.0)
-form_at (stage.Load setting) k ended n bytes w there fits says = absurd (clash fits.0) where
-  clash : wants.Load ≡ wants.Command → ⊥
-  clash e = absurd cc
-form_at (stage.Loaded g) k ended n bytes w there fits says = form_from g there k ended n bytes w says fits
+word_asked g said w there fits is = absurd (no_word w is)
+
+-- what a line that asks for a form is answered with
+form_at : (at : Stage) (k : ℕ) (ended : Bool) (n : ℕ) (bytes : List ℕ) (said : Line) (w : FiniteField → List Letter) → IsReached at → wants_of at ≡ wants.Command
+    → Fits (wants_of at) (sizes_of at) (listed_of (modules_of at)) said → SaysLine (state_at at k ended) bytes said → ((F : FiniteField) → asked_word F said ≡ Some (w F)) → AnswersForm (state_at at k ended) n bytes w
+form_at (stage.Loaded g) k ended n bytes said w there awaited fits says asks =
+    form_from g k ended n bytes said w there says fits (asks g.frame.field) (word_asked g said (w g.frame.field) there fits (asks g.frame.field))
+form_at at k ended n bytes said w there awaited fits says asks = absurd (elsewhere at awaited) where
+  elsewhere : (at : Stage) → wants_of at ≡ wants.Command → ⊥
+  elsewhere at h = absurd cc
 
 -- ---- `collect`
 
@@ -124,32 +186,49 @@ fits_said : (s : State) (bytes : List ℕ) (said : Line) → SaysLine s bytes sa
 fits_said s bytes said says =
     IfOk-at_ok (Fits (wants_of s.stage) (sizes_of s.stage) (listed_of (modules_of s.stage))) says (accepted-fits (wants_of s.stage) (sizes_of s.stage) (listed_of (modules_of s.stage)) bytes)
 
+-- a line that asks for a form, in a state that a script leads to
+form_said : (mode : Mode) (lines : List (List ℕ)) (replies : List Reply) (s : State) (n : ℕ) (bytes : List ℕ) (said : Line) (w : FiniteField → List Letter) → RepliesTo mode fresh 0 lines replies s
+    → SaysLine s bytes said → wants_of s.stage ≡ wants.Command → ((F : FiniteField) → asked_word F said ≡ Some (w F)) → AnswersForm s n bytes w
+form_said mode lines replies s n bytes said w h says awaited asks =
+    form_at s.stage s.refusals s.ended n bytes said w (reached_to mode lines replies s h) awaited (fits_said s bytes said says) says asks
+
 pub forms_are_joined : FormsAreJoined
 forms_are_joined = record {
   form = λ mode lines replies s n bytes w h says.
-      form_at s.stage s.refusals s.ended n bytes w (reached_to mode lines replies s h) (fits_said s bytes (line.Form w) says) says;
+      form_said mode lines replies s n bytes (line.Form w) (λ F. w) h says (fits_said s bytes (line.Form w) says).0 (λ F. refl);
+  product = λ mode lines replies s n bytes w v h says.
+      form_said mode lines replies s n bytes (line.Mul w v) (λ F. w ++ v) h says (fits_said s bytes (line.Mul w v) says).0 (λ F. refl);
+  inverse = λ mode lines replies s n bytes w h says.
+      form_said mode lines replies s n bytes (line.Inv w) (λ F. reversed F w) h says (fits_said s bytes (line.Inv w) says).0 (λ F. refl);
   collect = λ mode lines replies s n bytes w h says.
       collect_at s.stage s.refusals s.ended n bytes w (reached_to mode lines replies s h) (fits_said s bytes (line.Collect w) says) says;
 }
 
 -- ---- equal replies
 
-loaded_is : (g h : LoadedGroup) → stage.Loaded g ≡ stage.Loaded h → g ≡ h
-loaded_is g h e = cc
+-- what a reply to a line that asks for a form prints
+printed_at : (at : Stage) (g : LoadedGroup) (k : ℕ) (ended : Bool) (n : ℕ) (bytes : List ℕ) (said : Line) (w : List Letter) (reply : Reply) (next : State) → at ≡ stage.Loaded g
+    → Fits (wants_of at) (sizes_of at) (listed_of (modules_of at)) said → SaysLine (state_at at k ended) bytes said → asked_word g.frame.field said ≡ Some w
+    → Replies (state_at at k ended) n bytes reply next → FormTextOf g.frame w reply.bytes
+printed_at at g k ended n bytes said w reply next is = subst Prints_at (sym is) at_group where
+  abbrev Prints_at : Stage → Type 0
+  Prints_at at = Fits (wants_of at) (sizes_of at) (listed_of (modules_of at)) said → SaysLine (state_at at k ended) bytes said → asked_word g.frame.field said ≡ Some w
+      → Replies (state_at at k ended) n bytes reply next → FormTextOf g.frame w reply.bytes
 
--- what a reply to `form` prints
-printed_by : (s : State) (n : ℕ) (bytes : List ℕ) (w : List Letter) (g : LoadedGroup) (reply : Reply) (next : State) → AnswersForm s n bytes w → s.stage ≡ stage.Loaded g → Replies s n bytes reply next
-    → HasGroup g × FormTextOf g.frame w reply.bytes
-printed_by s n bytes w g reply next form is r =
-    let same : form.group ≡ g = loaded_is form.group g (sym form.stage_is ∙ is) in
-    let p = (form.answers reply next).0 r in
-    let text : FormTextOf form.group.frame w reply.bytes = subst (λ (z : List ℕ). FormTextOf form.group.frame w z) (sym (ap (λ (x : Reply). x.bytes) p.2.0)) p.1 in
-    (subst HasGroup same form.loaded, subst (λ (h : LoadedGroup). FormTextOf h.frame w reply.bytes) same text)
+  at_group : Prints_at (stage.Loaded g)
+  at_group fits says asks r =
+      let p = (form_does g k ended n bytes said w says fits asks reply next).0 r in
+      subst (λ (z : List ℕ). FormTextOf g.frame w z) (sym (ap (λ (x : Reply). x.bytes) p.2.0)) p.1
+
+-- a loaded group that a script leads to is one
+group_reached : (s : State) (g : LoadedGroup) → IsReached s.stage → s.stage ≡ stage.Loaded g → HasGroup g
+group_reached s g there is = subst IsReached is there
 
 pub equal_replies_are_joined : EqualRepliesAreJoined
-equal_replies_are_joined mode other_mode lines other_lines replies other_replies s t g h n m bytes other w v a b next after run other_run s_is t_is frames says other_says r q same =
-    let x = printed_by s n bytes w g a next (forms_are_joined.form mode lines replies s n bytes w run says) s_is r in
-    let y = printed_by t m other v h b after (forms_are_joined.form other_mode other_lines other_replies t m other v other_run other_says) t_is q in
-    let left : FormTextOf g.frame w b.bytes = subst (λ (z : List ℕ). FormTextOf g.frame w z) same x.1 in
-    let right : FormTextOf g.frame v b.bytes = subst (λ (f : SignedFrame). FormTextOf f v b.bytes) (sym frames) y.1 in
-    replies_tell_words g.frame w v b.bytes x.0.frame.lawful x.0.sized left right
+equal_replies_are_joined mode other_mode lines other_lines replies other_replies s t g h n m bytes other said told w v a b next after run other_run s_is t_is frames says other_says asks other_asks r q same =
+    let there = group_reached s g (reached_to mode lines replies s run) s_is in
+    let x = printed_at s.stage g s.refusals s.ended n bytes said w a next s_is (fits_said s bytes said says) says asks r in
+    let y = printed_at t.stage h t.refusals t.ended m other told v b after t_is (fits_said t other told other_says) other_says other_asks q in
+    let left : FormTextOf g.frame w b.bytes = subst (λ (z : List ℕ). FormTextOf g.frame w z) same x in
+    let right : FormTextOf g.frame v b.bytes = subst (λ (f : SignedFrame). FormTextOf f v b.bytes) (sym frames) y in
+    replies_tell_words g.frame w v b.bytes there.frame.lawful there.sized left right

@@ -5,6 +5,7 @@ pub mod Held
 pub mod Settings
 pub mod State
 pub mod Faults
+pub mod Asked
 pub mod Outcomes
 pub mod Replies
 pub mod Ready

@@ -1,13 +1,15 @@
--- How far a script fixes its output: two outputs are the same but for the forms that `form` and `collect` print.
--- Own. That joined forms are equal is not said here: a reply to `form` or `collect` may be the text of any form that is joined to the word.
-use Rattle.std.specs.Prelude.{◌≡◌, ◌⊎◌, ℕ, ◌+◌, List, [], ◌∷◌, ◌++◌, Some}
+-- How far a script fixes its output: two outputs are the same but for the forms that `form`, `mul`, `inv` and `collect` print.
+-- Own. That joined forms are equal is not said here: each of these replies may be the text of any form that is joined to the word.
+use Rattle.std.specs.Prelude.{◌≡◌, ◌⊎◌, ℕ, ◌+◌, List, [], ◌∷◌, ◌++◌, Some, None}
 use Rattle.std.specs.Bool.{MatchBool}
 use Rattle.std.specs.List.{AllByRecursion}
+use Rattle.lie_field.specs.FiniteField.{FiniteField}
 use Rattle.lie_group.specs.Loading.{IsSameFrame}
 use Rattle.lie_letters.specs.SignedFrames.{SignedFrame}
 use Rattle.lie_letters.specs.declared.letter.Letter.{Letter}
 use Rattle.lie_reply.specs.Commands.{FormTextOf}
-use Rattle.lie_script.specs.declared.line.Line.TheVariants as line
+use Rattle.lie_script.specs.declared.line.Line.{Line}
+use Rattle.lie_session.specs.Asked.{asked_word}
 use Rattle.lie_session.specs.Lines.{lines_of}
 use Rattle.lie_session.specs.Output.{rests, bytes_of, IsOutput}
 use Rattle.lie_session.specs.Replies.{Replies, SaysLine}
@@ -17,13 +19,15 @@ use Rattle.lie_session.specs.declared.reply.Kind.TheVariants as kind
 use Rattle.lie_session.specs.declared.reply.Reply.{Reply}
 use Rattle.lie_session.specs.declared.status.Status.{Status}
 
--- In the state, a and b are answers to one line `form` or `collect`: texts of forms of its word, for frames of the field and the datum of the
+-- In the state, a and b are answers to one line that asks for a form: texts of forms of its word, for frames of the field and the datum of the
 -- session, whose constants say the same and whose signs are the same.
 pub record AreForms (s : State) (bytes : List ℕ) (a b : Reply) : Type 0 where
+  pub said : Line
+  pub says : SaysLine s bytes said
   pub word : List Letter
-  pub says : SaysLine s bytes (line.Form word) ⊎ SaysLine s bytes (line.Collect word)
   pub frame : SignedFrame
   pub other : SignedFrame
+  pub asks : asked_word frame.field said ≡ Some word
   pub field_is : field_of s.stage ≡ Some frame.field
   pub datum_is : datum_of s.stage ≡ Some frame.datum
   pub same : IsSameFrame frame other
@@ -51,11 +55,11 @@ OneOutputUpToForms =
     (mode : Mode) (input out other : List ℕ) (status status' : Status) → IsOutput mode input out status → IsOutput mode input other status'
     → AreAlikeOutputs mode input out other × (status ≡ status')
 
--- in no state does the line say `form` or `collect`
+-- in no state does the line ask for a form
 abbrev pub AsksNoForm : List ℕ → Type 0
-AsksNoForm bytes = (s : State) (w : List Letter) → ¬ SaysLine s bytes (line.Form w) × ¬ SaysLine s bytes (line.Collect w)
+AsksNoForm bytes = (s : State) (said : Line) (F : FiniteField) → SaysLine s bytes said → asked_word F said ≡ None
 
--- a script without lines `form` and `collect` has one output alone, with one status
+-- a script that asks for no form has one output alone, with one status
 abbrev pub OneOutputWithoutForms : Type 0
 OneOutputWithoutForms =
     (mode : Mode) (input out other : List ℕ) (status status' : Status) → AllByRecursion AsksNoForm (lines_of input) → IsOutput mode input out status

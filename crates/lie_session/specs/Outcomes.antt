@@ -18,6 +18,7 @@ use Rattle.lie_field.specs.declared.faults.FieldFault.{FieldFault}
 use Rattle.lie_group.specs.Loading.{MakesFrame}
 use Rattle.lie_group.specs.declared.faults.LoadFault.{LoadFault}
 use Rattle.lie_letters.specs.SignedFrames.{SignedFrame}
+use Rattle.lie_letters.specs.Spelled.{reversed}
 use Rattle.lie_letters.specs.declared.letter.Letter.{Letter}
 use Rattle.lie_reply.specs.Commands.{FormTextOf, ConstantTextOf, WeylTextOf}
 use Rattle.lie_reply.specs.Modules.{module_text, matrix_text}
@@ -133,6 +134,8 @@ Leads (stage.Lines F lines) (line.Coroot v) r = ReadsDatum F (with_coroot lines 
 Leads (stage.Load setting) (line.Collect w) r = Collects setting w r
 Leads (stage.Load setting) line.Load r = LoadsGroup setting r
 Leads (stage.Loaded g) (line.Form w) r = PrintsForm (stage.Loaded g) g.frame w r
+Leads (stage.Loaded g) (line.Mul w v) r = PrintsForm (stage.Loaded g) g.frame (w ++ v) r
+Leads (stage.Loaded g) (line.Inv w) r = PrintsForm (stage.Loaded g) g.frame (reversed g.frame.field w) r
 Leads (stage.Loaded g) line.Roots r = r ≡ answered (stage.Loaded g) (roots_text g.frame.datum)
 Leads (stage.Loaded g) (line.Constant p q) r = Says g (ConstantTextOf g.frame.datum p q) r
 Leads (stage.Loaded g) (line.Weyl indices) r = Says g (WeylTextOf g.frame.datum indices) r

@@ -20,6 +20,8 @@ use Rattle.lie_session.specs.declared.stage.Stage.TheVariants as stage
 -- a command fits the group
 abbrev pub Commands : LoadedGroup → Line → Type 0
 Commands g (line.Form w) = IsLoaded g.frame.datum → IsWordFor g.frame.field g.frame.datum w
+Commands g (line.Mul w v) = (IsLoaded g.frame.datum → IsWordFor g.frame.field g.frame.datum w) × (IsLoaded g.frame.datum → IsWordFor g.frame.field g.frame.datum v)
+Commands g (line.Inv w) = IsLoaded g.frame.datum → IsWordFor g.frame.field g.frame.datum w
 Commands g (line.Constant p q) = IsPair g.frame.datum p q
 Commands g (line.Weyl indices) = AreIndices g.frame.datum indices
 Commands g (line.Adjoint name) = module_of g.modules name ≡ None

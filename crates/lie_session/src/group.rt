@@ -1,10 +1,11 @@
 //! What a session holds of a group: its field and its datum before `load`, and itself after it.
-ghost use Rattle.std.specs.Prelude.{◌≡◌, ◌≢◌, [], length, None, Ok, IfOk};
+ghost use Rattle.std.specs.Prelude.{◌≡◌, ◌≢◌, ◌++◌, [], length, None, Ok, IfOk};
 ghost use Rattle.lie_audit.specs.WordMatrix.{IsWordFor};
 ghost use Rattle.lie_const.specs.CommutatorTerms.{IsPair};
 ghost use Rattle.lie_const.specs.Modules.{IsModule, dimension};
 ghost use Rattle.lie_datum.specs.RootDatum.{IsWithin};
 ghost use Rattle.lie_datum.specs.RootList.{IsLoaded};
+ghost use Rattle.lie_letters.specs.Spelled.{reversed};
 ghost use Rattle.lie_reply.specs.Commands.{FormTextOf, ConstantTextOf};
 ghost use Rattle.lie_reply.specs.Modules.{module_text as text_of_module};
 ghost use Rattle.lie_session.specs.DatumLines.{padded as with_zeros};
@@ -14,7 +15,7 @@ use crate::datum::padded;
 use crate::faults::CallFault;
 use crate::modules::Modules;
 use lie_audit::word_matrix;
-use lie_bruhat::form;
+use lie_bruhat::{form, inv, mul};
 use lie_datum::Datum;
 use lie_field::Field;
 use lie_group::{LoadFault, make_frame};
@@ -112,6 +113,30 @@ pub(crate) fn printed(alloc: Global, frame: &Frame, w: &Word) -> Result<Text, Al
     frame.lawful();
     let form = form(alloc, frame, w)?;
     form_text(alloc, frame, &form)
+}
+
+/// The text of a form of the product of two words, which are multiplied as forms.
+fn multiplied(alloc: Global, frame: &Frame, w: &Word, v: &Word) -> Result<Text, AllocError>
+    requires left { IsLoaded frame.now.datum → IsWordFor frame.now.field frame.now.datum w.now }
+    requires right { IsLoaded frame.now.datum → IsWordFor frame.now.field frame.now.datum v.now }
+    ensures { IfOk result (λ text. FormTextOf frame.now (w.now ++ v.now) text) }
+{
+    frame.lawful();
+    let w = form(alloc, frame, w)?;
+    let v = form(alloc, frame, v)?;
+    let product = mul(alloc, frame, &w, &v)?;
+    form_text(alloc, frame, &product)
+}
+
+/// The text of a form of the reversed word, which is inverted as a form.
+fn inverted(alloc: Global, frame: &Frame, w: &Word) -> Result<Text, AllocError>
+    requires { IsLoaded frame.now.datum → IsWordFor frame.now.field frame.now.datum w.now }
+    ensures { IfOk result (λ text. FormTextOf frame.now (reversed frame.now.field w.now) text) }
+{
+    frame.lawful();
+    let w = form(alloc, frame, w)?;
+    let inverse = inv(alloc, frame, &w)?;
+    form_text(alloc, frame, &inverse)
 }
 
 /// A group with its named modules.
@@ -237,6 +262,8 @@ impl LoadedGroup {
     {
         match line {
             Line::Form(w) => Ok(Some(printed(alloc, self.frame(), &w)?)),
+            Line::Mul { w, v } => Ok(Some(multiplied(alloc, self.frame(), &w, &v)?)),
+            Line::Inv(w) => Ok(Some(inverted(alloc, self.frame(), &w)?)),
             Line::Roots => Ok(Some(roots_text(alloc, &self.frame().datum)?)),
             Line::Constant { r, s } => Ok(Some(self.constant(alloc, r, s)?)),
             Line::Weyl(indices) => Ok(Some(weyl_text(alloc, &self.frame().datum, &indices)?)),
