@@ -1,8 +1,7 @@
 -- The texts of replies, each ended by an LF.
 -- Own.
 --
---   loaded q d n e     the elements of the field, the coordinates, the roots, and the dimension of the faithful module:
---                      d where there are no roots, else `-`
+--   loaded q d n e     the elements of the field, the coordinates, the roots, and the dimension of the carrier
 --   n | i j k c ..      N_rs, then a term: the exponents, the number of the root i r + j s, and C_ijrs
 --   n | w | r          the length, the least word and the images of the simple roots; `-` stands for an empty list
 --   roots m            then a line for each positive root: its number, its coefficients, its vector and that of its coroot
@@ -16,15 +15,11 @@ use Rattle.lie_field.specs.FiniteField.{FiniteField}
 use Rattle.lie_field.specs.Quotient.{order}
 use Rattle.lie_script.specs.Texts.{spaced}
 
--- the dimension, where it is known
-abbrev pub dimension_text : Base → List ℕ
-dimension_text b = if nat_eq (rank b) 0 then decimal b.dim else codes "-"
-
--- the reply to `load`
-abbrev pub loaded_text : FiniteField → RootDatum → List ℕ
-loaded_text F D =
+-- the reply to `load`, for a carrier of this dimension
+abbrev pub loaded_text : FiniteField → RootDatum → ℕ → List ℕ
+loaded_text F D dimension =
     codes "loaded " ++ decimal (order F.given) ++ codes " " ++ decimal D.base.dim ++ codes " " ++ decimal (2 * length D.positive)
-    ++ codes " " ++ dimension_text D.base ++ codes "\n"
+    ++ codes " " ++ decimal dimension ++ codes "\n"
 
 -- the line of the positive root with the number k
 abbrev pub root_text : Base → ℕ → Root → List ℕ

@@ -8,23 +8,23 @@ use lie_field::Field;
 use lie_script::{Text, put_number, put_spaced};
 use std::alloc::{AllocError, Global};
 
-/// `loaded <elements of the field> <coordinates> <roots> <dimension>`.
-pub fn loaded_text(alloc: Global, field: &Field, datum: &Datum) -> Result<Text, AllocError>
-    ensures { IfOk result (λ text. text ≡ text_of_load field.now datum.now) }
+/// `loaded <elements of the field> <coordinates> <roots> <dimension of the carrier>`.
+pub fn loaded_text(
+    alloc: Global,
+    field: &Field,
+    datum: &Datum,
+    dimension: usize,
+) -> Result<Text, AllocError>
+    ensures { IfOk result (λ text. text ≡ text_of_load field.now datum.now dimension) }
 {
-    let d = datum.d() as i128;
     let mut out = Vec::from_slice(alloc, b"loaded ")?;
     put_number(&mut out, field.q() as i128)?;
     out.extend_from_slice(b" ")?;
-    put_number(&mut out, d)?;
+    put_number(&mut out, datum.d() as i128)?;
     out.extend_from_slice(b" ")?;
     put_number(&mut out, (2 * datum.m()) as i128)?;
     out.extend_from_slice(b" ")?;
-    if datum.l() == 0 {
-        put_number(&mut out, d)?;
-    } else {
-        out.extend_from_slice(b"-")?;
-    }
+    put_number(&mut out, dimension as i128)?;
     out.extend_from_slice(b"\n")?;
     Ok(Text::of(out))
 }

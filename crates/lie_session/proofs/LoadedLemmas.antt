@@ -22,11 +22,18 @@ use Rattle.lie_field.specs.FiniteField.{FiniteField}
 use Rattle.lie_field.specs.Faults.{IsWithinLimit, Loads as LoadsField}
 use Rattle.lie_field.specs.Quotient.{FieldData, field_data}
 use Rattle.lie_field.specs.declared.faults.FieldFault.{FieldFault}
+use Rattle.lie_audit.proofs.EqualMatricesLemmas.{equal_matrices}
+use Rattle.lie_group.specs.Groups.{GroupData, MeetsFrame, LoadsGroup}
 use Rattle.lie_group.specs.Loading.{MakesFrame}
 use Rattle.lie_group.specs.declared.faults.LoadFault.{LoadFault}
+use Rattle.lie_group.proofs.GroupLemmas.{carrier_meets}
+use Rattle.lie_identities.specs.Audit.{Audits}
+use Rattle.lie_identities.specs.declared.faults.AuditFault.{AuditFault}
+use Rattle.lie_letters.specs.GroupSpelled.{JoinedInGroup}
 use Rattle.lie_letters.specs.SignedFrames.{SignedFrame}
 use Rattle.lie_letters.specs.declared.letter.Letter.{Letter}
 use Rattle.lie_reply.specs.Modules.{matrix_text}
+use Rattle.lie_ring.specs.Matrices.{Matrix}
 use Rattle.lie_script.specs.Accepted.{IsNewName, Fits}
 use Rattle.lie_script.specs.Names.{dimension_of}
 use Rattle.lie_script.specs.Reading.{reads}
@@ -41,13 +48,14 @@ use Rattle.lie_weight.specs.declared.faults.ModuleFault.{ModuleFault}
 use Rattle.lie_session.specs.DatumLines.{DatumLines, opened, padded, with_root, with_coroot, is_whole, base_of}
 use Rattle.lie_session.specs.Faults.{Words, words_of}
 use Rattle.lie_session.specs.Held.{Setting, LoadedGroup}
-use Rattle.lie_session.specs.Loaded.{IsBuilt, HasGroup, AnswersProduct, GroupsAreLoaded, MatricesAreProducts}
+use Rattle.lie_session.specs.Loaded.{IsBuilt, HasGroup, AnswersProduct, GroupsAreLoaded, MatricesAreProducts, JoinedWordsHaveOneMatrix}
 use Rattle.lie_session.specs.Named.{Named, module_of, listed_of, HasDistinctNames}
-use Rattle.lie_session.specs.Outcomes.{Outcome, quiet, answered, field_outcome, datum_outcome, frame_outcome, module_outcome, with_module, KeepsDatum, CollectsBy, Leads}
+use Rattle.lie_session.specs.Outcomes.{Outcome, quiet, answered, field_outcome, datum_outcome, group_outcome, audit_outcome, with_module, KeepsDatum, CollectsBy, LoadsBy, NamesModule, NamesMade, Leads}
 use Rattle.lie_session.specs.Output.{RepliesTo, FieldsAreSized, DataAreLoaded}
-use Rattle.lie_session.specs.Replies.{next_count, over, Refuses, Accepts, Tells, Does, DoesRead, Replies}
+use Rattle.lie_session.specs.Replies.{next_count, over, Refuses, Accepts, Tells, Does, DoesRead, Replies, SaysLine}
 use Rattle.lie_session.specs.State.{State, fresh, field_of, datum_of, group_of, modules_of, is_loaded, wants_of, sizes_of}
 use Rattle.lie_session.specs.declared.mode.Mode.{Mode}
+use Rattle.lie_session.specs.declared.reply.Kind.TheVariants as kind
 use Rattle.lie_session.specs.declared.reply.Reply.{Reply}
 use Rattle.lie_session.specs.declared.stage.Stage.{Stage}
 use Rattle.lie_session.specs.declared.stage.Stage.TheVariants as stage
@@ -86,15 +94,24 @@ collected_reached : (setting : Setting) (w : List Letter) (x : Result SignedFram
 collected_reached setting w (Ok g) r there h = subst IsReachedBy (sym h.2) there
 collected_reached setting w (Err why) r there h = subst IsReachedBy (sym h) tt
 
-frame_reached : (setting : Setting) (x : Result SignedFrame LoadFault) → IsWithinLimit setting.field.given → MakesFrame setting.field setting.datum x → IsReachedBy (frame_outcome x)
-frame_reached setting (Ok g) sized h = record {
-  sized = subst (λ (F : FiniteField). IsWithinLimit F.given) (sym h.field) sized;
-  frame = record { field = refl; datum = refl; lawful = h.lawful; count = h.count };
+group_reached : (f : SignedFrame) (x : Result GroupData LoadFault) → IsWithinLimit f.field.given → LoadsGroup f x → IsReachedBy (group_outcome x)
+group_reached f (Ok g) sized h = record {
+  sized = subst (λ (k : SignedFrame). IsWithinLimit k.field.given) (sym h.0) sized;
+  frame = h.1.frame;
+  carrier = h.1.carrier;
+  audited = carrier_meets g h.1;
+  covering = h.1.covering;
   built = tt;
+  met = tt;
   found = tt;
   distinct = distinct_none;
 }
-frame_reached setting (Err why) sized h = tt
+group_reached f (Err why) sized h = tt
+
+loaded_reached : (setting : Setting) (x : Result SignedFrame LoadFault) (r : Outcome) → IsWithinLimit setting.field.given → MakesFrame setting.field setting.datum x → LoadsBy x r → IsReachedBy r
+loaded_reached setting (Ok f) r sized made h =
+    subst IsReachedBy (sym h.2) (group_reached f h.0 (subst (λ (F : FiniteField). IsWithinLimit F.given) (sym made.field) sized) h.1)
+loaded_reached setting (Err why) r sized made h = subst IsReachedBy (sym h) tt
 
 -- what has P has Q
 all_kept : {A : Type 0} (P Q : A → Type 0) → ((x : A) → P x → Q x) → (xs : List A) → AllByRecursion P xs → AllByRecursion Q xs
@@ -133,20 +150,33 @@ found_more modules name v free h =
           (free_from modules name free)
           ∙ ap (λ b. cond b (Some v) None) ((bytes_eq-Decides name name).1 refl)
 
--- a built module gets a new name
-named_reached : (g : LoadedGroup) (name : List ℕ) (v : Module) → HasGroup g → IsNewName (listed_of g.modules) name → IsBuilt g.frame v → HasGroup (with_module g name v)
-named_reached g name v there new built = record {
+-- a built module that meets the identities gets a new name
+named_reached : (g : LoadedGroup) (name : List ℕ) (v : Module) → HasGroup g → IsNewName (listed_of g.modules) name → IsBuilt g.frame v → MeetsFrame g.frame v → HasGroup (with_module g name v)
+named_reached g name v there new built meets = record {
   sized = there.sized;
   frame = there.frame;
+  carrier = there.carrier;
+  audited = there.audited;
+  covering = there.covering;
   built = all_more (λ e. IsBuilt g.frame e.1) g.modules (name, v) there.built built;
+  met = all_more (λ e. MeetsFrame g.frame e.1) g.modules (name, v) there.met meets;
   found = found_more g.modules name v new.free there.found;
   distinct = distinct_more g.modules name v (free_from g.modules name new.free) there.distinct;
 }
 
-orbit_reached : (g : LoadedGroup) (name : List ℕ) (w : List ℤ) (x : Result Module ModuleFault) → HasGroup g → IsNewName (listed_of g.modules) name → length w ≡ g.frame.datum.base.dim
-    → LoadsOrbit g.frame.datum (eta_of g.frame.signs) (padded w) x → IsReachedBy (module_outcome g name x)
-orbit_reached g name w (Ok v) there new long h = named_reached g name v there new (inr (w, long, h))
-orbit_reached g name w (Err why) there new long h = tt
+audited_reached : (g : LoadedGroup) (name : List ℕ) (v : Module) (x : Result Module AuditFault) → HasGroup g → IsNewName (listed_of g.modules) name → IsBuilt g.frame v
+    → Audits g.frame.datum g.frame.constants (eta_of g.frame.signs) v x → IsReachedBy (audit_outcome g name x)
+audited_reached g name v (Ok u) there new built h =
+    named_reached g name u there new (subst (IsBuilt g.frame) (sym h.0) built) (subst (MeetsFrame g.frame) (sym h.0) h.1)
+audited_reached g name v (Err why) there new built h = tt
+
+module_reached : (g : LoadedGroup) (name : List ℕ) (v : Module) (r : Outcome) → HasGroup g → IsNewName (listed_of g.modules) name → IsBuilt g.frame v → NamesModule g name v r → IsReachedBy r
+module_reached g name v r there new built h = subst IsReachedBy (sym h.2) (audited_reached g name v h.0 there new built h.1)
+
+orbit_reached : (g : LoadedGroup) (name : List ℕ) (w : List ℤ) (x : Result Module ModuleFault) (r : Outcome) → HasGroup g → IsNewName (listed_of g.modules) name → length w ≡ g.frame.datum.base.dim
+    → LoadsOrbit g.frame.datum (eta_of g.frame.signs) (padded w) x → NamesMade g name x r → IsReachedBy r
+orbit_reached g name w (Ok v) r there new long h names = module_reached g name v r there new (inr (w, long, h)) names
+orbit_reached g name w (Err why) r there new long h names = subst IsReachedBy (sym names) tt
 
 matrix_reached : (g : LoadedGroup) (text : Module → List ℕ) (o : Option Module) (r : Outcome) → HasGroup g
     → MatchOption o (r ≡ quiet (stage.Loaded g)) (λ v. r ≡ answered (stage.Loaded g) (text v)) → IsReachedBy r
@@ -159,15 +189,15 @@ leads_reached (stage.Datum F) (line.Datum d l) r there fits h = joined_reached F
 leads_reached (stage.Lines F lines) (line.Root v) r there fits h = joined_reached F (with_root lines v) (is_whole (with_root lines v)) r there h
 leads_reached (stage.Lines F lines) (line.Coroot v) r there fits h = joined_reached F (with_coroot lines v) (is_whole (with_coroot lines v)) r there h
 leads_reached (stage.Load setting) (line.Collect w) r there fits h = collected_reached setting w h.0 r there h.2
-leads_reached (stage.Load setting) line.Load r there fits h = subst IsReachedBy (sym h.2) (frame_reached setting h.0 there.0 h.1)
+leads_reached (stage.Load setting) line.Load r there fits h = loaded_reached setting h.0 r there.0 h.1 h.2
 leads_reached (stage.Loaded g) (line.Form w) r there fits h = subst IsReachedBy (sym h.2) there
 leads_reached (stage.Loaded g) (line.Mul w v) r there fits h = subst IsReachedBy (sym h.2) there
 leads_reached (stage.Loaded g) (line.Inv w) r there fits h = subst IsReachedBy (sym h.2) there
 leads_reached (stage.Loaded g) line.Roots r there fits h = subst IsReachedBy (sym h) there
 leads_reached (stage.Loaded g) (line.Constant p q) r there fits h = subst IsReachedBy (sym h.2) there
 leads_reached (stage.Loaded g) (line.Weyl indices) r there fits h = subst IsReachedBy (sym h.2) there
-leads_reached (stage.Loaded g) (line.Adjoint name) r there fits h = subst IsReachedBy (sym h.2) (named_reached g name h.0 there fits.1 (inl h.1))
-leads_reached (stage.Loaded g) (line.Orbit name w) r there fits h = subst IsReachedBy (sym h.2) (orbit_reached g name w h.0 there fits.1 fits.2 h.1)
+leads_reached (stage.Loaded g) (line.Adjoint name) r there fits h = module_reached g name h.0 r there fits.1 (inl h.1) h.2
+leads_reached (stage.Loaded g) (line.Orbit name w) r there fits h = orbit_reached g name w h.0 r there fits.1 fits.2 h.1 h.2
 leads_reached (stage.Loaded g) (line.Matrix name w) r there fits h = matrix_reached g (λ v. matrix_text (word_matrix g.frame.field v w)) (module_of g.modules name) r there h
 leads_reached at _ r there fits h = subst IsReachedBy (sym h) there
 
@@ -263,6 +293,12 @@ module _ (g : LoadedGroup) (there : HasGroup g) (k : ℕ) (ended : Bool) (n : �
       subst (λ o. IfSome o (IsBuilt g.frame)) is
       (All-lookup (IsBuilt g.frame) (λ other. bytes_eq other name) g.modules (All-from_recursion (λ e. IsBuilt g.frame e.1) g.modules there.built))
 
+  -- and it meets the identities
+  met_of_name : (v : Module) → module_of g.modules name ≡ Some v → MeetsFrame g.frame v
+  met_of_name v is =
+      subst (λ o. IfSome o (MeetsFrame g.frame)) is
+      (All-lookup (MeetsFrame g.frame) (λ other. bytes_eq other name) g.modules (All-from_recursion (λ e. MeetsFrame g.frame e.1) g.modules there.met))
+
   -- the replies to the line are those of its module
   matrix_does : (v : Module) → module_of g.modules name ≡ Some v → reads (wants_of (stage.Loaded g)) (sizes_of (stage.Loaded g)) (listed_of g.modules) bytes ≡ Ok (line.Matrix name w)
       → (reply : Reply) (next : State) → Replies (loaded_state g k ended) n bytes reply next
@@ -295,6 +331,7 @@ module _ (g : LoadedGroup) (there : HasGroup g) (k : ℕ) (ended : Bool) (n : �
         acted_on = found.0;
         named = found.1;
         built = built_of_name found.0 found.1;
+        met = met_of_name found.0 found.1;
         answers = matrix_does found.0 found.1 said;
       }
 
@@ -322,3 +359,36 @@ matrices_are_products mode lines replies s n bytes name w h said =
     let P = Fits (wants_of s.stage) (sizes_of s.stage) (listed_of (modules_of s.stage)) in
     let fits : P (line.Matrix name w) = IfOk-at_ok P said (accepted-fits (wants_of s.stage) (sizes_of s.stage) (listed_of (modules_of s.stage)) bytes) in
     product_at s.stage s.refusals s.ended n bytes name w (reached_to mode lines replies s h) fits said
+
+-- ---- joined words
+
+-- what a reply to `matrix` in a loaded group is
+record IsRows (g : LoadedGroup) (name : List ℕ) (w : List Letter) (reply : Reply) : Type 0 where
+  acted_on : Module
+  named : module_of g.modules name ≡ Some acted_on
+  met : MeetsFrame g.frame acted_on
+  is : reply ≡ record { kind = kind.Answer; bytes = matrix_text (word_matrix g.frame.field acted_on w) }
+
+group_is : (g h : LoadedGroup) → stage.Loaded g ≡ stage.Loaded h → g ≡ h
+group_is g h e = cc
+
+rows_from : (s : State) (g : LoadedGroup) (n : ℕ) (bytes name : List ℕ) (w : List Letter) (reply : Reply) (next : State) → s.stage ≡ stage.Loaded g → AnswersProduct s n bytes name w
+    → Replies s n bytes reply next → IsRows g name w reply
+rows_from s g n bytes name w reply next at p r =
+    subst (λ (h : LoadedGroup). IsRows h name w reply) (group_is p.group g (sym p.stage_is ∙ at))
+    (record { acted_on = p.acted_on; named = p.named; met = p.met; is = ((p.answers reply next).0 r).0 })
+
+some_is : (u v : Module) → Some u ≡ Some v → u ≡ v
+some_is u v e = cc
+
+-- the replies of joined words are equal
+pub joined_words_have_one_matrix : JoinedWordsHaveOneMatrix
+joined_words_have_one_matrix mode lines replies s g n m bytes other name w v a b next after run at says told joined r q =
+    let there : HasGroup g = subst IsReached at (reached_to mode lines replies s run) in
+    let x = rows_from s g n bytes name w a next at (matrices_are_products mode lines replies s n bytes name w run says) r in
+    let y = rows_from s g m other name v b after at (matrices_are_products mode lines replies s m other name v run told) q in
+    let same : x.acted_on ≡ y.acted_on = some_is x.acted_on y.acted_on (sym x.named ∙ y.named) in
+    let one = equal_matrices g.frame x.acted_on there.frame.lawful x.met w v joined in
+    x.is ∙ ap (λ M. answer M) one ∙ ap (λ (u : Module). answer (word_matrix g.frame.field u v)) same ∙ sym y.is where
+      answer : Matrix ℕ → Reply
+      answer M = record { kind = kind.Answer; bytes = matrix_text M }

@@ -8,7 +8,7 @@ use Rattle.lie_audit.specs.WordMatrix.{word_matrix}
 use Rattle.lie_audit.proofs.OneAdjointLemmas.{one_adjoint}
 use Rattle.lie_const.specs.ConstantTables.{ConstantTable, IsSameTable}
 use Rattle.lie_const.specs.Modules.{Module, dimension}
-use Rattle.lie_const.specs.Signs.{eta_of}
+use Rattle.lie_const.specs.Signs.{Signs, eta_of}
 use Rattle.lie_datum.specs.Load.{Loads as LoadsDatum}
 use Rattle.lie_datum.specs.RootList.{RootDatum, IsLoaded}
 use Rattle.lie_datum.specs.declared.faults.DatumFault.{DatumFault}
@@ -20,10 +20,17 @@ use Rattle.lie_field.specs.Quotient.{FieldData, field_data, IsFieldData}
 use Rattle.lie_field.specs.declared.faults.FieldFault.{FieldFault}
 use Rattle.lie_field.specs.declared.faults.FieldFault.TheVariants as field_fault
 use Rattle.lie_field.proofs.FaultLemmas.{faults_once, field_has_no_fault}
-use Rattle.lie_group.specs.Loading.{MakesFrame, IsSameFrame, IsSameAnswer}
+use Rattle.lie_group.specs.Groups.{GroupData, IsSameGroup, IsSameGroupAnswer}
+use Rattle.lie_group.specs.Loading.{MakesFrame, IsSameFrame}
 use Rattle.lie_group.specs.declared.faults.LoadFault.{LoadFault}
 use Rattle.lie_group.specs.declared.faults.LoadFault.TheVariants as load_fault
 use Rattle.lie_group.proofs.OneFrame.{one_frame}
+use Rattle.lie_group.proofs.OneGroup.{one_group}
+use Rattle.lie_group.proofs.SameAudits.{meets_same, fault_same}
+use Rattle.lie_identities.specs.Audit.{Audits}
+use Rattle.lie_identities.specs.declared.faults.AuditFault.{AuditFault}
+use Rattle.lie_identities.specs.declared.faults.AuditFault.TheVariants as audit_fault
+use Rattle.lie_identities.proofs.OneAnswer.{one_audit_answer}
 use Rattle.lie_letters.specs.SignedFrames.{SignedFrame}
 use Rattle.lie_letters.specs.Spelled.{reversed}
 use Rattle.lie_letters.specs.declared.letter.Letter.{Letter}
@@ -40,10 +47,10 @@ use Rattle.lie_weight.specs.declared.faults.ModuleFault.TheVariants as orbit_fau
 use Rattle.lie_weight.proofs.OneOrbitAnswer.{one_answer as one_orbit}
 use Rattle.lie_session.specs.Asked.{asked_word}
 use Rattle.lie_session.specs.DatumLines.{DatumLines, opened, padded, with_root, with_coroot, is_whole, base_of}
-use Rattle.lie_session.specs.Faults.{field_words, datum_words, load_words, module_words, words_of}
+use Rattle.lie_session.specs.Faults.{field_words, datum_words, load_words, module_words, audit_words, words_of}
 use Rattle.lie_session.specs.Held.{Setting, LoadedGroup}
 use Rattle.lie_session.specs.Named.{Named, module_of}
-use Rattle.lie_session.specs.Outcomes.{Outcome, quiet, answered, field_outcome, datum_outcome, frame_outcome, module_outcome, with_module, KeepsDatum, PrintsForm, CollectsBy, Leads}
+use Rattle.lie_session.specs.Outcomes.{Outcome, quiet, answered, field_outcome, datum_outcome, group_outcome, audit_outcome, with_module, KeepsDatum, PrintsForm, CollectsBy, LoadsBy, NamesModule, NamesMade, Leads}
 use Rattle.lie_session.specs.declared.faults.CallFault.TheVariants as call
 use Rattle.lie_session.specs.State.{field_of, datum_of}
 use Rattle.lie_session.specs.declared.faults.CallFault.TheVariants as call
@@ -166,27 +173,62 @@ frame_ok g e = absurd cc
 frame_err : (why : LoadFault) → why ≢ load_fault.NoMemory → ◌≡◌ {A = FrameAnswer} (Err why) (Err load_fault.NoMemory) → ⊥
 frame_err why named e = let is : why ≡ load_fault.NoMemory = cc in named is
 
--- frames that say the same make one stage
-same_frames : (g h : SignedFrame) → IsSameFrame g h → IsSameStage (stage.Loaded (record { frame = g; modules = [] })) (stage.Loaded (record { frame = h; modules = [] }))
-same_frames g h same =
-    let is : record g { constants = h.constants } ≡ h = λ i. record { field = same.field i; datum = same.datum i; constants = h.constants; signs = same.signs i } in
-    subst (λ (x : SignedFrame). IsSameStage (stage.Loaded (record { frame = g; modules = [] })) (stage.Loaded (record { frame = x; modules = [] }))) is
-    (groups (record { frame = g; modules = [] }) h.constants same.constants)
+abbrev GroupAnswer : Type 0
+GroupAnswer = Result GroupData LoadFault
 
-same_answers : (at : Stage) (said : Line) (x y : FrameAnswer) → IsSameAnswer x y → IsSameOutcome at said (frame_outcome x) (frame_outcome y)
-same_answers at said (Ok g) (Ok h) same = (same_frames g h same, inl (ap (λ F. loaded_text F g.datum) same.field ∙ ap (loaded_text h.field) same.datum))
+group_ok : (g : GroupData) → ◌≡◌ {A = GroupAnswer} (Ok g) (Err load_fault.NoMemory) → ⊥
+group_ok g e = absurd cc
+
+group_err : (why : LoadFault) → why ≢ load_fault.NoMemory → ◌≡◌ {A = GroupAnswer} (Err why) (Err load_fault.NoMemory) → ⊥
+group_err why named e = let is : why ≡ load_fault.NoMemory = cc in named is
+
+group_told : (x : GroupAnswer) → IsTold (group_outcome x) → ◌≢◌ {A = GroupAnswer} x (Err load_fault.NoMemory)
+group_told (Ok g) a = group_ok g
+group_told (Err why) a = group_err why (load_named why a)
+
+-- a group in which no module has a name
+abbrev without_modules : GroupData → LoadedGroup
+without_modules g = record { frame = g.frame; carrier = g.carrier.module; modules = [] }
+
+-- groups that say the same make one stage
+same_groups : (g h : GroupData) → IsSameGroup g h → IsSameStage (stage.Loaded (without_modules g)) (stage.Loaded (without_modules h))
+same_groups g h same =
+    let is : with_constants (without_modules g) h.frame.constants ≡ without_modules h = λ i. record {
+      frame = record { field = same.frame.field i; datum = same.frame.datum i; constants = h.frame.constants; signs = same.frame.signs i };
+      carrier = same.carrier i;
+      modules = [];
+    } in
+    subst (λ (x : LoadedGroup). IsSameStage (stage.Loaded (without_modules g)) (stage.Loaded x)) is (groups (without_modules g) h.frame.constants same.frame.constants)
+
+same_answers : (at : Stage) (said : Line) (x y : GroupAnswer) → IsSameGroupAnswer x y → IsSameOutcome at said (group_outcome x) (group_outcome y)
+same_answers at said (Ok g) (Ok h) same = (
+  same_groups g h same,
+  inl (
+    ap (λ F. loaded_text F g.frame.datum (dimension g.carrier.module)) same.frame.field
+    ∙ ap (λ D. loaded_text h.frame.field D (dimension g.carrier.module)) same.frame.datum
+    ∙ ap (λ v. loaded_text h.frame.field h.frame.datum (dimension v)) same.carrier
+  ),
+)
 same_answers at said (Ok g) (Err why) same = absurd same
 same_answers at said (Err why) (Ok h) same = absurd same
 same_answers at said (Err why) (Err other) same = ap (λ z. call.Load z) same
 
-frame_told : (x : FrameAnswer) → IsTold (frame_outcome x) → ◌≢◌ {A = FrameAnswer} x (Err load_fault.NoMemory)
-frame_told (Ok g) a = frame_ok g
-frame_told (Err why) a = frame_err why (load_named why a)
-
--- two frames of one field and one datum
-frame_once : (setting : Setting) (x y : FrameAnswer) → IsLoaded setting.datum → MakesFrame setting.field setting.datum x → MakesFrame setting.field setting.datum y
-    → IsTold (frame_outcome x) → IsTold (frame_outcome y) → IsSameAnswer x y
-frame_once setting x y loaded h k a b = one_frame setting.field setting.datum x y loaded h k (frame_told x a) (frame_told y b)
+-- the group of the field and the datum
+loads_once : (setting : Setting) (x y : FrameAnswer) (r q : Outcome) → IsLoaded setting.datum → MakesFrame setting.field setting.datum x → MakesFrame setting.field setting.datum y
+    → IsTold r → IsTold q → LoadsBy x r → LoadsBy y q → IsSameOutcome (stage.Load setting) line.Load r q
+loads_once setting (Ok g) (Ok h) r q loaded m k a b c d =
+    by_both (stage.Load setting) line.Load r q (group_outcome c.0) (group_outcome d.0) c.2 d.2
+    (same_answers (stage.Load setting) line.Load c.0 d.0
+    (one_group setting.field setting.datum g h c.0 d.0 m k c.1 d.1 (group_told c.0 (told_as r (group_outcome c.0) c.2 a)) (group_told d.0 (told_as q (group_outcome d.0) d.2 b))))
+loads_once setting (Ok g) (Err why) r q loaded m k a b c d =
+    absurd (one_frame setting.field setting.datum (Ok g) (Err why) loaded m k (frame_ok g) (frame_err why (load_named why (subst IsTold d b))))
+loads_once setting (Err why) (Ok h) r q loaded m k a b c d =
+    absurd (one_frame setting.field setting.datum (Err why) (Ok h) loaded m k (frame_err why (load_named why (subst IsTold c a))) (frame_ok h))
+loads_once setting (Err why) (Err other) r q loaded m k a b c d =
+    let same : why ≡ other = one_frame setting.field setting.datum (Err why) (Err other) loaded m k (frame_err why (load_named why (subst IsTold c a))) (frame_err other (load_named other (subst IsTold d b))) in
+    same_outcome (stage.Load setting) line.Load r q (c ∙ ap (λ z. failed z) same ∙ sym d) where
+      failed : LoadFault → Outcome
+      failed z = Err (call.Load z)
 
 -- forms of one word for them
 collect_once : (setting : Setting) (w : List Letter) (x y : FrameAnswer) (r q : Outcome) → IsLoaded setting.datum → MakesFrame setting.field setting.datum x → MakesFrame setting.field setting.datum y
@@ -230,9 +272,30 @@ module_ok v e = absurd cc
 module_err : (why : ModuleFault) → why ≢ orbit_fault.NoMemory → ◌≡◌ {A = ModuleAnswer} (Err why) (Err orbit_fault.NoMemory) → ⊥
 module_err why named e = let is : why ≡ orbit_fault.NoMemory = cc in named is
 
-module_told : (g : LoadedGroup) (name : List ℕ) (x : ModuleAnswer) → IsTold (module_outcome g name x) → ◌≢◌ {A = ModuleAnswer} x (Err orbit_fault.NoMemory)
-module_told g name (Ok v) a = module_ok v
-module_told g name (Err why) a = module_err why (module_named why a)
+made_told : (g : LoadedGroup) (name : List ℕ) (x : ModuleAnswer) (r : Outcome) → NamesMade g name x r → IsTold r → ◌≢◌ {A = ModuleAnswer} x (Err orbit_fault.NoMemory)
+made_told g name (Ok v) r h a = module_ok v
+made_told g name (Err why) r h a = module_err why (module_named why (subst IsTold h a))
+
+audit_named : (why : AuditFault) → IsSome (audit_words why) → why ≢ audit_fault.NoMemory
+audit_named why h e = false≢true (subst (λ z. IsSome (audit_words z)) e h)
+
+abbrev AuditAnswer : Type 0
+AuditAnswer = Result Module AuditFault
+
+audit_ok : (v : Module) → ◌≡◌ {A = AuditAnswer} (Ok v) (Err audit_fault.NoMemory) → ⊥
+audit_ok v e = absurd cc
+
+audit_err : (why : AuditFault) → why ≢ audit_fault.NoMemory → ◌≡◌ {A = AuditAnswer} (Err why) (Err audit_fault.NoMemory) → ⊥
+audit_err why named e = let is : why ≡ audit_fault.NoMemory = cc in named is
+
+audit_told : (g : LoadedGroup) (name : List ℕ) (x : AuditAnswer) → IsTold (audit_outcome g name x) → ◌≢◌ {A = AuditAnswer} x (Err audit_fault.NoMemory)
+audit_told g name (Ok v) a = audit_ok v
+audit_told g name (Err why) a = audit_err why (audit_named why a)
+
+-- constants that say the same give one audit
+audits_same : (D : RootDatum) (c e : ConstantTable) (eta : Signs) (v : Module) (x : AuditAnswer) → IsSameTable D c e → Audits D c eta v x → Audits D e eta v x
+audits_same D c e eta v (Ok u) same h = (h.0, meets_same D c e same eta v h.1)
+audits_same D c e eta v (Err why) same h = fault_same D c e same eta v why h
 
 module _ (g : LoadedGroup) (c : ConstantTable) (table : IsSameTable g.frame.datum g.frame.constants c) (said : Line) where
   -- a text at both
@@ -244,14 +307,22 @@ module _ (g : LoadedGroup) (c : ConstantTable) (table : IsSameTable g.frame.datu
   same_quiet : (r q : Outcome) → r ≡ quiet (stage.Loaded g) → q ≡ quiet (stage.Loaded (with_constants g c)) → IsSameOutcome (stage.Loaded g) said r q
   same_quiet r q r_is q_is = by_both (stage.Loaded g) said r q (quiet (stage.Loaded g)) (quiet (stage.Loaded (with_constants g c))) r_is q_is (groups g c table, tt)
 
-  module_same : (name : List ℕ) (x : ModuleAnswer) → IsSameOutcome (stage.Loaded g) said (module_outcome g name x) (module_outcome (with_constants g c) name x)
-  module_same name (Ok v) = (groups (with_module g name v) c table, inl refl)
-  module_same name (Err why) = refl
+  named_same : (name : List ℕ) (x : AuditAnswer) → IsSameOutcome (stage.Loaded g) said (audit_outcome g name x) (audit_outcome (with_constants g c) name x)
+  named_same name (Ok v) = (groups (with_module g name v) c table, inl refl)
+  named_same name (Err why) = refl
 
-  module_once : (name : List ℕ) (x y : ModuleAnswer) (r q : Outcome) → r ≡ module_outcome g name x → q ≡ module_outcome (with_constants g c) name y → x ≡ y → IsSameOutcome (stage.Loaded g) said r q
-  module_once name x y r q r_is q_is is =
-      by_both (stage.Loaded g) said r q (module_outcome g name x) (module_outcome (with_constants g c) name y) r_is q_is
-      (subst (λ z. IsSameOutcome (stage.Loaded g) said (module_outcome g name x) (module_outcome (with_constants g c) name z)) is (module_same name x))
+  -- one module is audited and named
+  module_once : (name : List ℕ) (v : Module) (r q : Outcome) → IsTold r → IsTold q → NamesModule g name v r → NamesModule (with_constants g c) name v q → IsSameOutcome (stage.Loaded g) said r q
+  module_once name v r q a b x y =
+      let eta = eta_of g.frame.signs in
+      let is = one_audit_answer g.frame.datum c eta v x.0 y.0 (audits_same g.frame.datum g.frame.constants c eta v x.0 table x.1) y.1
+      (audit_told g name x.0 (told_as r (audit_outcome g name x.0) x.2 a)) (audit_told (with_constants g c) name y.0 (told_as q (audit_outcome (with_constants g c) name y.0) y.2 b)) in
+      by_both (stage.Loaded g) said r q (audit_outcome g name x.0) (audit_outcome (with_constants g c) name y.0) x.2 y.2
+      (subst (λ z. IsSameOutcome (stage.Loaded g) said (audit_outcome g name x.0) (audit_outcome (with_constants g c) name z)) is (named_same name x.0))
+
+  made_once : (name : List ℕ) (x : ModuleAnswer) (r q : Outcome) → IsTold r → IsTold q → NamesMade g name x r → NamesMade (with_constants g c) name x q → IsSameOutcome (stage.Loaded g) said r q
+  made_once name (Ok v) r q a b x y = module_once name v r q a b x y
+  made_once name (Err why) r q a b x y = by_both (stage.Loaded g) said r q (Err (call.Module why)) (Err (call.Module why)) x y refl
 
   matrix_once : (text : Module → List ℕ) (o : Option Module) (r q : Outcome) → MatchOption o (r ≡ quiet (stage.Loaded g)) (λ v. r ≡ answered (stage.Loaded g) (text v))
       → MatchOption o (q ≡ quiet (stage.Loaded (with_constants g c))) (λ v. q ≡ answered (stage.Loaded (with_constants g c)) (text v)) → IsSameOutcome (stage.Loaded g) said r q
@@ -287,11 +358,10 @@ loaded_once g c table line.Roots r q loaded a b x y = same_answer g c table line
 loaded_once g c table (line.Constant p t) r q loaded a b x y = same_answer g c table (line.Constant p t) r q x.0 y.0 x.2 y.2 (one_constant_text g.frame.datum p t x.0 y.0 loaded x.1 y.1)
 loaded_once g c table (line.Weyl indices) r q loaded a b x y = same_answer g c table (line.Weyl indices) r q x.0 y.0 x.2 y.2 (one_weyl_text g.frame.datum indices x.0 y.0 loaded x.1 y.1)
 loaded_once g c table (line.Adjoint name) r q loaded a b x y =
-    module_once g c table (line.Adjoint name) name (Ok x.0) (Ok y.0) r q x.2 y.2 (ap Ok (one_adjoint g.frame.datum loaded x.0 y.0 x.1 y.1))
+    module_once g c table (line.Adjoint name) name x.0 r q a b x.2 (subst (λ (v : Module). NamesModule (with_constants g c) name v q) (one_adjoint g.frame.datum loaded y.0 x.0 y.1 x.1) y.2)
 loaded_once g c table (line.Orbit name w) r q loaded a b x y =
-    module_once g c table (line.Orbit name w) name x.0 y.0 r q x.2 y.2
-    (one_orbit g.frame.datum (eta_of g.frame.signs) (padded w) x.0 y.0 loaded x.1 y.1
-    (module_told g name x.0 (told_as r (module_outcome g name x.0) x.2 a)) (module_told (with_constants g c) name y.0 (told_as q (module_outcome (with_constants g c) name y.0) y.2 b)))
+    let is = one_orbit g.frame.datum (eta_of g.frame.signs) (padded w) y.0 x.0 loaded y.1 x.1 (made_told (with_constants g c) name y.0 q y.2 b) (made_told g name x.0 r x.2 a) in
+    made_once g c table (line.Orbit name w) name x.0 r q a b x.2 (subst (λ z. NamesMade (with_constants g c) name z q) is y.2)
 loaded_once g c table (line.Matrix name w) r q loaded a b x y =
     matrix_once g c table (line.Matrix name w) (λ v. matrix_text (word_matrix g.frame.field v w)) (module_of g.modules name) r q x y
 loaded_once g c table said r q loaded a b x y = same_quiet g c table said r q x y
@@ -309,10 +379,7 @@ at_once (stage.Datum F) (line.Datum d l) r q there a b x y = joined_once (stage.
 at_once (stage.Lines F lines) (line.Root v) r q there a b x y = joined_once (stage.Lines F lines) (line.Root v) F (with_root lines v) (is_whole (with_root lines v)) r q a b x y
 at_once (stage.Lines F lines) (line.Coroot v) r q there a b x y = joined_once (stage.Lines F lines) (line.Coroot v) F (with_coroot lines v) (is_whole (with_coroot lines v)) r q a b x y
 at_once (stage.Load setting) (line.Collect w) r q there a b x y = collect_once setting w x.0 y.0 r q there.1 x.1 y.1 a b x.2 y.2
-at_once (stage.Load setting) line.Load r q there a b x y =
-    by_both (stage.Load setting) line.Load r q (frame_outcome x.0) (frame_outcome y.0) x.2 y.2
-    (same_answers (stage.Load setting) line.Load x.0 y.0
-    (frame_once setting x.0 y.0 there.1 x.1 y.1 (told_as r (frame_outcome x.0) x.2 a) (told_as q (frame_outcome y.0) y.2 b)))
+at_once (stage.Load setting) line.Load r q there a b x y = loads_once setting x.0 y.0 r q there.1 x.1 y.1 a b x.2 y.2
 at_once (stage.Loaded g) said r q there a b x y = loaded_once g g.frame.constants (same_table g.frame.datum g.frame.constants) said r q there.frame.lawful.lawful.loaded a b x y
 at_once at said r q there a b x y = same_outcome at said r q (x ∙ sym y)
 

@@ -1,7 +1,7 @@
 -- What a session holds of a group: before `load` its field and its datum, and after it the group itself.
 -- Own.
 use Rattle.std.specs.List.{AllByRecursion}
-use Rattle.lie_const.specs.Modules.{IsModule}
+use Rattle.lie_const.specs.Modules.{Module, IsModule}
 use Rattle.lie_datum.specs.RootList.{RootDatum}
 use Rattle.lie_field.specs.FiniteField.{FiniteField}
 use Rattle.lie_letters.specs.SignedFrames.{SignedFrame}
@@ -12,9 +12,10 @@ pub record Setting : Type 0 where
   pub field : FiniteField
   pub datum : RootDatum
 
--- a loaded group: its frame, and its named modules
+-- a loaded group: its frame, its carrier, and its named modules
 pub record LoadedGroup : Type 0 where
   pub frame : SignedFrame
+  pub carrier : Module
   pub modules : Named
 
 -- each named module is a module of the datum of the frame

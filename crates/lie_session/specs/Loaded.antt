@@ -13,7 +13,10 @@ use Rattle.lie_const.specs.Adjoint.{IsAdjointOf}
 use Rattle.lie_const.specs.Modules.{Module}
 use Rattle.lie_const.specs.Signs.{eta_of}
 use Rattle.lie_field.specs.Faults.{IsWithinLimit}
+use Rattle.lie_group.specs.Groups.{IsCarrierOf, MeetsFrame}
 use Rattle.lie_group.specs.Loading.{IsFrameOf}
+use Rattle.lie_identities.specs.Covers.{IsCovering}
+use Rattle.lie_letters.specs.GroupSpelled.{JoinedInGroup}
 use Rattle.lie_letters.specs.SignedFrames.{SignedFrame}
 use Rattle.lie_letters.specs.declared.letter.Letter.{Letter}
 use Rattle.lie_reply.specs.Modules.{matrix_text}
@@ -24,7 +27,7 @@ use Rattle.lie_session.specs.DatumLines.{padded}
 use Rattle.lie_session.specs.Held.{LoadedGroup}
 use Rattle.lie_session.specs.Named.{module_of, listed_of, HasDistinctNames}
 use Rattle.lie_session.specs.Output.{RepliesTo}
-use Rattle.lie_session.specs.Replies.{Accepts, Replies}
+use Rattle.lie_session.specs.Replies.{Accepts, Replies, SaysLine}
 use Rattle.lie_session.specs.State.{State, fresh, group_of, modules_of, wants_of, sizes_of}
 use Rattle.lie_session.specs.declared.mode.Mode.{Mode}
 use Rattle.lie_session.specs.declared.reply.Reply.{Reply}
@@ -34,12 +37,16 @@ use Rattle.lie_session.specs.declared.stage.Stage.TheVariants as stage
 abbrev pub IsBuilt : SignedFrame → Module → Type 0
 IsBuilt f v = IsAdjointOf f.datum v ⊎ ((w : List ℤ) × (length w ≡ f.datum.base.dim) × LoadsOrbit f.datum (eta_of f.signs) (padded w) (Ok v))
 
--- A group is loaded: its frame is that of a field within the limits and a datum. Each named module is built from the frame, its name finds
--- it, and no two have one name.
+-- A group is loaded: its frame is that of a field within the limits and a datum, its carrier meets the identities and covers over the
+-- field. Each named module is built from the frame and meets the identities, its name finds it, and no two have one name.
 pub record HasGroup (g : LoadedGroup) : Type 0 where
   pub sized : IsWithinLimit g.frame.field.given
   pub frame : IsFrameOf g.frame.field g.frame.datum g.frame
+  pub carrier : IsCarrierOf g.frame g.carrier
+  pub audited : MeetsFrame g.frame g.carrier
+  pub covering : IsCovering g.frame.field g.frame.datum g.carrier
   pub built : AllByRecursion (λ e. IsBuilt g.frame e.1) g.modules
+  pub met : AllByRecursion (λ e. MeetsFrame g.frame e.1) g.modules
   pub found : AllByRecursion (λ e. module_of g.modules e.0 ≡ Some e.1) g.modules
   pub distinct : HasDistinctNames g.modules
 
@@ -58,6 +65,7 @@ pub record AnswersProduct (s : State) (n : ℕ) (bytes name : List ℕ) (w : Lis
   pub acted_on : Module
   pub named : module_of group.modules name ≡ Some acted_on
   pub built : IsBuilt group.frame acted_on
+  pub met : MeetsFrame group.frame acted_on
   pub answers : (reply : Reply) (next : State) → Replies s n bytes reply next ↔ Accepts s (Some (matrix_text (word_matrix group.frame.field acted_on w))) reply next
 
 -- in each state that a script leads to, each line that asks for the matrix of a word is answered so
@@ -65,3 +73,10 @@ abbrev pub MatricesAreProducts : Type 0
 MatricesAreProducts =
     (mode : Mode) (lines : List (List ℕ)) (replies : List Reply) (s : State) (n : ℕ) (bytes name : List ℕ) (w : List Letter) → RepliesTo mode fresh 0 lines replies s
     → reads (wants_of s.stage) (sizes_of s.stage) (listed_of (modules_of s.stage)) bytes ≡ Ok (line.Matrix name w) → AnswersProduct s n bytes name w
+
+-- in a state that a script leads to, two lines that ask for the matrices of joined words on one module have equal replies
+abbrev pub JoinedWordsHaveOneMatrix : Type 0
+JoinedWordsHaveOneMatrix =
+    (mode : Mode) (lines : List (List ℕ)) (replies : List Reply) (s : State) (g : LoadedGroup) (n m : ℕ) (bytes other name : List ℕ) (w v : List Letter) (a b : Reply) (next after : State)
+    → RepliesTo mode fresh 0 lines replies s → s.stage ≡ stage.Loaded g → SaysLine s bytes (line.Matrix name w) → SaysLine s other (line.Matrix name v)
+    → JoinedInGroup g.frame w v → Replies s n bytes a next → Replies s m other b after → a ≡ b

@@ -15,8 +15,11 @@ use Rattle.lie_field.specs.Faults.{Loads as LoadsField}
 use Rattle.lie_field.specs.FiniteField.{FiniteField}
 use Rattle.lie_field.specs.Quotient.{FieldData, field_data}
 use Rattle.lie_field.specs.declared.faults.FieldFault.{FieldFault}
+use Rattle.lie_group.specs.Groups.{GroupData, LoadsGroup}
 use Rattle.lie_group.specs.Loading.{MakesFrame}
 use Rattle.lie_group.specs.declared.faults.LoadFault.{LoadFault}
+use Rattle.lie_identities.specs.Audit.{Audits}
+use Rattle.lie_identities.specs.declared.faults.AuditFault.{AuditFault}
 use Rattle.lie_letters.specs.SignedFrames.{SignedFrame}
 use Rattle.lie_letters.specs.Spelled.{reversed}
 use Rattle.lie_letters.specs.declared.letter.Letter.{Letter}
@@ -67,10 +70,16 @@ datum_outcome F lines (Err why) = Err (call.Datum lines.rank why)
 abbrev pub KeepsDatum : FiniteField → DatumLines → Outcome → Type 0
 KeepsDatum F lines r = (x : Result RootDatum DatumFault) × LoadsDatum (base_of lines) x × (r ≡ datum_outcome F lines x)
 
--- the frame is that of a group, in which no module has a name
-abbrev pub frame_outcome : Result SignedFrame LoadFault → Outcome
-frame_outcome (Ok g) = answered (stage.Loaded (record { frame = g; modules = [] })) (loaded_text g.field g.datum)
-frame_outcome (Err why) = Err (call.Load why)
+-- the group is loaded, and no module has a name in it
+abbrev pub group_outcome : Result GroupData LoadFault → Outcome
+group_outcome (Ok g) =
+    answered (stage.Loaded (record { frame = g.frame; carrier = g.carrier.module; modules = [] })) (loaded_text g.frame.field g.frame.datum (dimension g.carrier.module))
+group_outcome (Err why) = Err (call.Load why)
+
+-- the group of the frame that was made is loaded, if one was
+abbrev pub LoadsBy : Result SignedFrame LoadFault → Outcome → Type 0
+LoadsBy (Ok f) r = (x : Result GroupData LoadFault) × LoadsGroup f x × (r ≡ group_outcome x)
+LoadsBy (Err why) r = r ≡ Err (call.Load why)
 
 -- a text of a form of the word for the frame is the answer, and the stage stays
 abbrev pub PrintsForm : Stage → SignedFrame → List Letter → Outcome → Type 0
@@ -85,9 +94,9 @@ CollectsBy setting w (Err why) r = r ≡ Err (call.Load why)
 abbrev pub Collects : Setting → List Letter → Outcome → Type 0
 Collects setting w r = (x : Result SignedFrame LoadFault) × MakesFrame setting.field setting.datum x × CollectsBy setting w x r
 
--- the group of the field and the datum is loaded
-abbrev pub LoadsGroup : Setting → Outcome → Type 0
-LoadsGroup setting r = (x : Result SignedFrame LoadFault) × MakesFrame setting.field setting.datum x × (r ≡ frame_outcome x)
+-- the frame of the field and the datum is made, and its group is loaded
+abbrev pub Loads : Setting → Outcome → Type 0
+Loads setting r = (x : Result SignedFrame LoadFault) × MakesFrame setting.field setting.datum x × LoadsBy x r
 
 -- a line joins the lines of the datum, and the last one completes them
 abbrev pub ReadsDatum : FiniteField → DatumLines → Outcome → Type 0
@@ -100,19 +109,29 @@ ReadsDatum F lines r =
 abbrev pub with_module : LoadedGroup → List ℕ → Module → LoadedGroup
 with_module g name v = record g { modules = g.modules ++ (name, v) ∷ [] }
 
--- the module gets the name
-abbrev pub module_outcome : LoadedGroup → List ℕ → Result Module ModuleFault → Outcome
-module_outcome g name (Ok v) = answered (stage.Loaded (with_module g name v)) (module_text name (dimension v))
-module_outcome g name (Err why) = Err (call.Module why)
+-- the module that was audited gets the name
+abbrev pub audit_outcome : LoadedGroup → List ℕ → Result Module AuditFault → Outcome
+audit_outcome g name (Ok v) = answered (stage.Loaded (with_module g name v)) (module_text name (dimension v))
+audit_outcome g name (Err why) = Err (call.Audit why)
 
--- the adjoint module gets the name
+-- the module is audited for the frame of the group, and gets the name
+abbrev pub NamesModule : LoadedGroup → List ℕ → Module → Outcome → Type 0
+NamesModule g name v r =
+    (x : Result Module AuditFault) × Audits g.frame.datum g.frame.constants (eta_of g.frame.signs) v x × (r ≡ audit_outcome g name x)
+
+-- the module that was made, if one was, is audited and gets the name
+abbrev pub NamesMade : LoadedGroup → List ℕ → Result Module ModuleFault → Outcome → Type 0
+NamesMade g name (Ok v) r = NamesModule g name v r
+NamesMade g name (Err why) r = r ≡ Err (call.Module why)
+
+-- the adjoint module is audited and gets the name
 abbrev pub NamesAdjoint : LoadedGroup → List ℕ → Outcome → Type 0
-NamesAdjoint g name r = (v : Module) × IsAdjointOf g.frame.datum v × (r ≡ module_outcome g name (Ok v))
+NamesAdjoint g name r = (v : Module) × IsAdjointOf g.frame.datum v × NamesModule g name v r
 
--- the module of the orbit of the weight gets the name
+-- the module of the orbit of the weight is audited and gets the name
 abbrev pub NamesOrbit : LoadedGroup → List ℕ → List ℤ → Outcome → Type 0
 NamesOrbit g name w r =
-    (x : Result Module ModuleFault) × LoadsOrbit g.frame.datum (eta_of g.frame.signs) (padded w) x × (r ≡ module_outcome g name x)
+    (x : Result Module ModuleFault) × LoadsOrbit g.frame.datum (eta_of g.frame.signs) (padded w) x × NamesMade g name x r
 
 -- the rows of the matrix of the word on the module of the name; a name that no module has is refused in reading
 abbrev pub SaysMatrix : LoadedGroup → List ℕ → List Letter → Outcome → Type 0
@@ -132,7 +151,7 @@ Leads (stage.Datum F) (line.Datum d l) r = ReadsDatum F (opened d l) r
 Leads (stage.Lines F lines) (line.Root v) r = ReadsDatum F (with_root lines v) r
 Leads (stage.Lines F lines) (line.Coroot v) r = ReadsDatum F (with_coroot lines v) r
 Leads (stage.Load setting) (line.Collect w) r = Collects setting w r
-Leads (stage.Load setting) line.Load r = LoadsGroup setting r
+Leads (stage.Load setting) line.Load r = Loads setting r
 Leads (stage.Loaded g) (line.Form w) r = PrintsForm (stage.Loaded g) g.frame w r
 Leads (stage.Loaded g) (line.Mul w v) r = PrintsForm (stage.Loaded g) g.frame (w ++ v) r
 Leads (stage.Loaded g) (line.Inv w) r = PrintsForm (stage.Loaded g) g.frame (reversed g.frame.field w) r

@@ -1,9 +1,10 @@
 //! The faults of calls, and their words.
-ghost use Rattle.std.specs.Prelude.{◌≡◌, ◌≤◌, Some, IfOk};
+ghost use Rattle.std.specs.Prelude.{◌≡◌, ◌≤◌, ◌++◌, Some, IfOk};
 ghost use Rattle.lie_session.specs.declared.faults.CallFault.TheVariants.{NoMemory};
-ghost use Rattle.lie_session.specs.Faults.{field_words, datum_words, load_words, module_words, words_of};
+ghost use Rattle.lie_session.specs.Faults.{field_words, datum_words, rel_numbers, relation_name, graded_words, large_words, audit_words, load_words, module_words, words_of};
 
-use lie_datum::{DatumFault, Side};
+use lie_audit::{AuditFault, Rel};
+use lie_datum::{DatumFault, RootId, Side};
 use lie_field::FieldFault;
 use lie_group::LoadFault;
 use lie_weight::ModuleFault;
@@ -18,6 +19,7 @@ pub(crate) enum CallFault {
     Datum(usize, DatumFault),
     Load(LoadFault),
     Module(ModuleFault),
+    Audit(AuditFault),
 }
 
 impl From<AllocError> for CallFault {
@@ -55,6 +57,16 @@ impl From<ModuleFault> for CallFault {
 
     fn from(why: ModuleFault) -> CallFault {
         CallFault::Module(why)
+    }
+}
+
+impl From<AuditFault> for CallFault {
+    ghost use Rattle.lie_session.specs.declared.faults.CallFault.TheVariants as call;
+
+    ghost from_gives = { λ why e. e ≡ call.Audit why };
+
+    fn from(why: AuditFault) -> CallFault {
+        CallFault::Audit(why)
     }
 }
 
@@ -113,7 +125,96 @@ fn words_of_datum(alloc: Global, l: usize, fault: &DatumFault) -> Result<Words, 
     }
 }
 
-/// The words of a fault of a frame.
+/// The roots and simple indices of a relation.
+fn numbers_of(alloc: Global, rel: &Rel) -> Result<Vec<i128>, AllocError>
+    ensures { IfOk result (λ v. v.items ≡ rel_numbers rel.now) }
+{
+    match rel {
+        Rel::S1(r) => Vec::from_slice(alloc, &[r.number() as i128]),
+        Rel::S2(r, s) => Vec::from_slice(alloc, &[r.number() as i128, s.number() as i128]),
+        Rel::S6(i) => Vec::from_slice(alloc, &[*i as i128]),
+        Rel::S7(i, s) => Vec::from_slice(alloc, &[*i as i128, s.number() as i128]),
+    }
+}
+
+/// The words of an entry that is not graded.
+fn words_of_entry(
+    alloc: Global,
+    r: RootId,
+    k: u32,
+    row: usize,
+    col: usize,
+) -> Result<Words, AllocError>
+    ensures { IfOk result (λ w. graded_words r k row col ≡ (w.0.now, w.1.items)) }
+{
+    words(
+        alloc,
+        b"graded",
+        &[r.number() as i128, k as i128, row as i128, col as i128],
+    )
+}
+
+/// The words of a large relation.
+fn words_of_large(alloc: Global, rel: &Rel) -> Result<Words, AllocError>
+    ensures { IfOk result (λ w. large_words rel.now ≡ (w.0.now, w.1.items)) }
+{
+    let name = match rel {
+        Rel::S1(_) => b"large s1".as_slice(),
+        Rel::S2(_, _) => b"large s2",
+        Rel::S6(_) => b"large s6",
+        Rel::S7(_, _) => b"large s7",
+    };
+    Ok((name, numbers_of(alloc, rel)?))
+}
+
+/// The words of a relation that fails, with the place and what stands there on both sides.
+fn words_of_relation(alloc: Global, rel: &Rel, place: &[i128]) -> Result<Words, AllocError>
+    ensures name { IfOk result (λ w. w.0.now ≡ relation_name rel.now) }
+    ensures numbers { IfOk result (λ w. w.1.items ≡ rel_numbers rel.now ++ place.now) }
+{
+    let name = match rel {
+        Rel::S1(_) => b"relation s1".as_slice(),
+        Rel::S2(_, _) => b"relation s2",
+        Rel::S6(_) => b"relation s6",
+        Rel::S7(_, _) => b"relation s7",
+    };
+    let mut numbers = numbers_of(alloc, rel)?;
+    numbers.extend_from_slice(place)?;
+    Ok((name, numbers))
+}
+
+/// The words of a fault of the audit of a module.
+fn words_of_audit(alloc: Global, fault: &AuditFault) -> Result<Words, AllocError>
+    ensures { IfOk result (λ w. audit_words fault.now ≡ Some (w.0.now, w.1.items)) }
+{
+    match fault {
+        AuditFault::NoMemory => Err(AllocError),
+        AuditFault::Graded(r, k, row, col) => words_of_entry(alloc, *r, *k, *row, *col),
+        AuditFault::Large(rel) => words_of_large(alloc, rel),
+        AuditFault::Relation {
+            rel,
+            row,
+            col,
+            et,
+            eu,
+            left,
+            right,
+        } => words_of_relation(
+            alloc,
+            rel,
+            &[
+                *row as i128,
+                *col as i128,
+                *et as i128,
+                *eu as i128,
+                *left,
+                *right,
+            ],
+        ),
+    }
+}
+
+/// The words of a fault of a frame, or of the carrier of a group.
 fn words_of_load(alloc: Global, fault: &LoadFault) -> Result<Words, AllocError>
     ensures { IfOk result (λ w. load_words fault.now ≡ Some (w.0.now, w.1.items)) }
 {
@@ -142,6 +243,32 @@ fn words_of_load(alloc: Global, fault: &LoadFault) -> Result<Words, AllocError>
         LoadFault::Braid(i, j, value) => {
             words(alloc, b"braid", &[*i as i128, *j as i128, *value])
         }
+        LoadFault::CarrierWide(n) => words(alloc, b"carrierwide", &[*n as i128]),
+        LoadFault::Heavy(a) => words(alloc, b"heavy", &[*a as i128]),
+        LoadFault::Huge(r, k) => words(alloc, b"huge", &[r.number() as i128, *k as i128]),
+        LoadFault::Graded(r, k, row, col) => words_of_entry(alloc, *r, *k, *row, *col),
+        LoadFault::Large(rel) => words_of_large(alloc, rel),
+        LoadFault::Relation {
+            rel,
+            row,
+            col,
+            et,
+            eu,
+            left,
+            right,
+        } => words_of_relation(
+            alloc,
+            rel,
+            &[
+                *row as i128,
+                *col as i128,
+                *et as i128,
+                *eu as i128,
+                *left,
+                *right,
+            ],
+        ),
+        LoadFault::Dead(r) => words(alloc, b"dead", &[r.number() as i128]),
     }
 }
 
@@ -169,6 +296,7 @@ impl CallFault {
             CallFault::Datum(l, fault) => words_of_datum(alloc, *l, fault),
             CallFault::Load(fault) => words_of_load(alloc, fault),
             CallFault::Module(fault) => words_of_module(alloc, fault),
+            CallFault::Audit(fault) => words_of_audit(alloc, fault),
         }
     }
 }

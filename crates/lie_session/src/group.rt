@@ -2,12 +2,12 @@
 ghost use Rattle.std.specs.Prelude.{◌≡◌, ◌≢◌, ◌++◌, [], length, None, Ok, IfOk};
 ghost use Rattle.lie_audit.specs.WordMatrix.{IsWordFor};
 ghost use Rattle.lie_const.specs.CommutatorTerms.{IsPair};
-ghost use Rattle.lie_const.specs.Modules.{IsModule, dimension};
+ghost use Rattle.lie_const.specs.Modules.{IsModule};
 ghost use Rattle.lie_datum.specs.RootDatum.{IsWithin};
 ghost use Rattle.lie_datum.specs.RootList.{IsLoaded};
+ghost use Rattle.lie_identities.specs.Audit.{HasLightWeights};
 ghost use Rattle.lie_letters.specs.Spelled.{reversed};
 ghost use Rattle.lie_reply.specs.Commands.{FormTextOf, ConstantTextOf};
-ghost use Rattle.lie_reply.specs.Modules.{module_text as text_of_module};
 ghost use Rattle.lie_session.specs.DatumLines.{padded as with_zeros};
 ghost use Rattle.lie_session.specs.Named.{module_of};
 
@@ -18,7 +18,7 @@ use lie_audit::word_matrix;
 use lie_bruhat::{form, inv, mul};
 use lie_datum::Datum;
 use lie_field::Field;
-use lie_group::{LoadFault, make_frame};
+use lie_group::{Group, LoadFault, make_frame};
 use lie_letters::{Frame, Word};
 use lie_reply::{constant_text, form_text, matrix_text, module_text, roots_text, weyl_text};
 use lie_script::{Line, Numbers, Text};
@@ -142,7 +142,7 @@ fn inverted(alloc: Global, frame: &Frame, w: &Word) -> Result<Text, AllocError>
 /// A group with its named modules.
 #[derive(Drop)]
 pub(crate) struct LoadedGroup {
-    frame: Frame,
+    group: Group,
     modules: Modules,
 }
 
@@ -151,23 +151,23 @@ impl Model for LoadedGroup {
 
     ghost Value = { LoadedGroup };
 
-    ghost view = { λ g. record { frame = g.frame; modules = g.modules.entries } };
+    ghost view = { λ g. record { frame = g.group.frame; carrier = g.group.carrier.module; modules = g.modules.entries } };
 
-    ghost invariant = { λ g. AreModules g.frame g.modules.entries };
+    ghost invariant = { λ g. AreModules g.group.frame g.modules.entries };
 }
 
 impl LoadedGroup {
     ghost use Rattle.lie_session.specs.Obeyed.{IsAnswered};
-    ghost use Rattle.lie_session.specs.Outcomes.{Leads, NamesAdjoint, NamesOrbit, SaysMatrix, with_module};
+    ghost use Rattle.lie_session.specs.Outcomes.{Leads, NamesModule, NamesAdjoint, NamesOrbit, SaysMatrix};
     ghost use Rattle.lie_session.specs.Ready.{Commands};
     ghost use Rattle.lie_session.specs.declared.stage.Stage.TheVariants.{Loaded as LoadedStage};
 
-    /// The group of a frame, in which no module has a name. It takes no memory.
-    pub(crate) fn new(alloc: Global, frame: Frame) -> LoadedGroup
-        ensures { result ≡ record { frame = frame; modules = [] } }
+    /// The group, in which no module has a name. It takes no memory.
+    pub(crate) fn new(alloc: Global, group: Group) -> LoadedGroup
+        ensures { result ≡ record { frame = group.frame; carrier = group.carrier.module; modules = [] } }
     {
         LoadedGroup {
-            frame,
+            group,
             modules: Modules::new(alloc),
         }
     }
@@ -176,7 +176,7 @@ impl LoadedGroup {
     pub(crate) fn frame(&self) -> &Frame
         ensures { result.now ≡ self.now.frame }
     {
-        &self.frame
+        self.group.frame()
     }
 
     /// The named modules.
@@ -191,7 +191,7 @@ impl LoadedGroup {
         requires { IsPair self.now.frame.datum r s }
         ensures { IfOk result (λ text. ConstantTextOf self.now.frame.datum r s text) }
     {
-        let frame = &self.frame;
+        let frame = self.frame();
         constant_text(alloc, &frame.datum, &frame.constants, r, s)
     }
 
@@ -200,30 +200,31 @@ impl LoadedGroup {
         requires { IsLoaded self.now.frame.datum → IsWordFor self.now.frame.field self.now.frame.datum w.now }
         ensures { IfOk result (λ text. SaysMatrix self.now name.now w.now (Ok (LoadedStage self.now, text))) }
     {
-        let Some(module) = self.modules.find(name) else {
+        let Some(space) = self.modules.find(name) else {
             return Ok(None);
         };
-        let frame = &self.frame;
+        let frame = self.frame();
         frame.datum.loaded();
-        let matrix = word_matrix(alloc, &frame.field, &frame.datum, module, w)?;
+        let matrix = word_matrix(alloc, &frame.field, &frame.datum, space, w)?;
         Ok(Some(matrix_text(alloc, &matrix)?))
     }
 
-    /// Gives a module a new name, and tells it.
+    /// Audits a module, gives it a new name, and tells it.
     fn name_module(
         &mut self,
         alloc: Global,
         name: &[u8],
-        module: Module,
-    ) -> Result<Text, AllocError>
-        requires datum { IsModule self.old.frame.datum «module» }
+        space: Module,
+    ) -> Result<Option<Text>, CallFault>
+        requires shape { IsModule self.old.frame.datum space }
+        requires light { HasLightWeights space }
         requires free { module_of self.old.modules name.now ≡ None }
-        ensures text { IfOk result (λ text. text ≡ text_of_module name.now (dimension «module»)) }
-        ensures named { IfOk result (λ text. self.new ≡ with_module self.old name.now «module») }
+        ensures { IsAnswered (NamesModule self.old name.now space) self.old result self.new }
     {
-        let text = module_text(alloc, name, module.dim())?;
-        self.modules.push(alloc, name, module)?;
-        Ok(text)
+        let audited = self.group.audit(alloc, space)?;
+        let text = module_text(alloc, name, audited.module().dim())?;
+        self.modules.push(alloc, name, audited)?;
+        Ok(Some(text))
     }
 
     /// Gives the adjoint module a new name.
@@ -231,9 +232,10 @@ impl LoadedGroup {
         requires { module_of self.old.modules name.now ≡ None }
         ensures { IsAnswered (NamesAdjoint self.old name.now) self.old result self.new }
     {
-        let frame = &self.frame;
-        let module = Module::adjoint(alloc, &frame.datum, &frame.constants)?;
-        Ok(Some(self.name_module(alloc, name, module)?))
+        let frame = self.frame();
+        frame.datum.loaded();
+        let space = Module::adjoint(alloc, &frame.datum, &frame.constants)?;
+        self.name_module(alloc, name, space)
     }
 
     /// Gives the module of the orbit of a weight a new name.
@@ -248,11 +250,11 @@ impl LoadedGroup {
         requires free { module_of self.old.modules name.now ≡ None }
         ensures { IsAnswered (NamesOrbit self.old name.now v.now) self.old result self.new }
     {
-        let frame = &self.frame;
+        let frame = self.frame();
         frame.datum.loaded();
         let weight = padded(v.list());
-        let module = Module::orbit(alloc, &frame.datum, &frame.signs, &weight)?;
-        Ok(Some(self.name_module(alloc, name, module)?))
+        let space = Module::orbit(alloc, &frame.datum, &frame.signs, &weight)?;
+        self.name_module(alloc, name, space)
     }
 
     /// Does what a command says. Other lines say nothing here.

@@ -6,15 +6,16 @@ ghost use Rattle.std.specs.Map.{keys_of};
 ghost use Rattle.lie_session.specs.Named.{named_of, module_of, listed_of, HasDistinctNames};
 
 use indexmap::IndexMap;
+use lie_audit::Audited;
 use lie_script::Names;
 use lie_weight::Module;
 use std::alloc::{AllocError, Global};
 use std::marker::Model;
 
-/// Modules by their names, in the order of making.
+/// Audited modules by their names, in the order of making.
 #[derive(Drop)]
 pub(crate) struct Modules {
-    table: IndexMap<Vec<u8>, Module>,
+    table: IndexMap<Vec<u8>, Audited>,
     ghost distinct: { HasDistinctNames (named_of table.entries) } by { IsDistinct-prop bytes_eq (keys_of (named_of table.entries)) },
 }
 
@@ -43,14 +44,14 @@ impl Modules {
         &mut self,
         alloc: Global,
         name: &[u8],
-        module: Module,
+        audited: Audited,
     ) -> Result<(), AllocError>
         requires { module_of self.old.entries name.now ≡ None }
-        ensures pushed { OnOk result (self.new.entries ≡ self.old.entries ++ (name.now, «module») ∷ []) }
+        ensures pushed { OnOk result (self.new.entries ≡ self.old.entries ++ (name.now, audited.module) ∷ []) }
         ensures left { OnErr result (self.new ≡ self.old) }
     {
         let name = Vec::from_slice(alloc, name)?;
-        self.table.insert(name, module)?;
+        self.table.insert(name, audited)?;
         Ok(())
     }
 
@@ -59,7 +60,10 @@ impl Modules {
     pub(crate) fn find(&self, name: &[u8]) -> Option<&Module>
         ensures { option_copied result ≡ module_of self.now.entries name.now }
     {
-        self.table.get(name)
+        match self.table.get(name) {
+            Some(audited) => Some(audited.module()),
+            None => None,
+        }
     }
 }
 

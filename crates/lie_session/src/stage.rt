@@ -9,7 +9,7 @@ ghost use Rattle.lie_script.specs.Reading.{reads};
 ghost use Rattle.lie_script.specs.Setting.{answer_of};
 ghost use Rattle.lie_session.specs.Named.{listed_of};
 ghost use Rattle.lie_session.specs.Obeyed.{IsLed};
-ghost use Rattle.lie_session.specs.Outcomes.{KeepsField, KeepsDatum, ReadsDatum, Collects, LoadsGroup, Leads};
+ghost use Rattle.lie_session.specs.Outcomes.{KeepsField, KeepsDatum, ReadsDatum, Collects, Loads, Leads};
 ghost use Rattle.lie_session.specs.Ready.{Ready};
 ghost use Rattle.lie_session.specs.declared.stage.Stage.TheVariants as stage;
 
@@ -18,6 +18,7 @@ use crate::faults::CallFault;
 use crate::group::{LoadedGroup, Setting, printed};
 use lie_datum::Datum;
 use lie_field::Field;
+use lie_group::Group;
 use lie_letters::Word;
 use lie_reply::loaded_text;
 use lie_script::{Line, LineFault, Names, NoNames, Numbers, Sizes, Text, Wants, read_line};
@@ -98,11 +99,14 @@ fn collect(alloc: Global, setting: Setting, w: &Word) -> Result<Led, CallFault>
 
 /// Loads the group of the field and the datum.
 fn load_group(alloc: Global, setting: Setting) -> Result<Led, CallFault>
-    ensures { IsLed (LoadsGroup setting) result }
+    ensures { IsLed (Loads setting) result }
 {
     let frame = setting.frame(alloc)?;
-    let text = loaded_text(alloc, &frame.field, &frame.datum)?;
-    Ok((Stage::Loaded(LoadedGroup::new(alloc, frame)), Some(text)))
+    let group = Group::load(alloc, frame)?;
+    let frame = group.frame();
+    let dimension = group.carrier().module().dim();
+    let text = loaded_text(alloc, &frame.field, &frame.datum, dimension)?;
+    Ok((Stage::Loaded(LoadedGroup::new(alloc, group)), Some(text)))
 }
 
 /// A line where the field is awaited.
