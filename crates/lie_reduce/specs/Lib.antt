@@ -1,3 +1,5 @@
 pub mod Triangular
 pub mod Elimination
 pub mod Factors
+pub mod Levels
+pub mod UniqueForms
