@@ -7,9 +7,12 @@ use Rattle.lie_letters.specs.SignedFrames.{SignedFrame, IsLawfulSigned}
 use Rattle.lie_letters.specs.GroupSpelled.{JoinedInGroup}
 use Rattle.lie_letters.proofs.GroupSpelledLemmas.{JoinedInGroup-trans, JoinedInGroup-flip}
 use Rattle.lie_unip.specs.Forms.{FormData, IsForm, IsShortest, form_word}
+use Rattle.lie_bruhat.proofs.FormExists.{every_word}
 use Rattle.lie_bruhat.proofs.RulesHold.{reversed_cancels, shortest_words_joined}
+use Rattle.lie_audit.specs.WordMatrix.{word_matrix}
 use Rattle.lie_audit.proofs.EqualMatricesLemmas.{equal_matrices}
 use Rattle.lie_audit.proofs.WeylWeightsLemmas.{weyl_moves_weights}
+use Rattle.lie_reduce.specs.Faithful.{CoveringModulesAreFaithful}
 use Rattle.lie_reduce.specs.UniqueForms.{FormsAreUnique, WordsHaveOneForm}
 use Rattle.lie_reduce.proofs.UniqueFormsLemmas.{form_same}
 
@@ -17,7 +20,7 @@ pub forms_are_unique : FormsAreUnique
 forms_are_unique f v ground x y is js p q hp hq same = form_same f v ground equal_matrices reversed_cancels shortest_words_joined weyl_moves_weights x y is js p q hp hq same
 
 -- the Weyl element of a form has a shortest word
-some_shortest : (f : SignedFrame) → IsLawfulSigned f → (x : FormData) → IsForm f x → (p : List ℕ) × IsShortest f.datum x.weyl p
+pub some_shortest : (f : SignedFrame) → IsLawfulSigned f → (x : FormData) → IsForm f x → (p : List ℕ) × IsShortest f.datum x.weyl p
 some_shortest f lawful x is =
     let d = f.datum in
     let loaded = lawful.lawful.loaded in
@@ -39,4 +42,17 @@ words_have_one_form f v ground x y w u is js =
       λ (same : x ≡ y).
           JoinedInGroup-trans f w (form_word x p.0) u (JoinedInGroup-flip f (form_word x p.0) w a)
           (subst (λ z. IsShortest f.datum z.weyl p.0 → JoinedInGroup f (form_word z p.0) u) (sym same) (js.joined p.0) p.1),
+    )
+
+pub covering_modules_are_faithful : CoveringModulesAreFaithful
+covering_modules_are_faithful f v ground w u over_w over_u =
+    let x = every_word f w ground.lawful over_w in
+    let y = every_word f u ground.lawful over_u in
+    let p = some_shortest f ground.lawful x.0 x.1.form in
+    let q = some_shortest f ground.lawful y.0 y.1.form in
+    let a = equal_matrices f v ground.lawful ground.audited (form_word x.0 p.0) w (x.1.joined p.0 p.1) in
+    let b = equal_matrices f v ground.lawful ground.audited (form_word y.0 q.0) u (y.1.joined q.0 q.1) in (
+      equal_matrices f v ground.lawful ground.audited w u,
+      λ (same : word_matrix f.field v w ≡ word_matrix f.field v u).
+          (words_have_one_form f v ground x.0 y.0 w u x.1 y.1).1 (forms_are_unique f v ground x.0 y.0 x.1.form y.1.form p.0 q.0 p.1 q.1 (a ∙ same ∙ sym b)),
     )

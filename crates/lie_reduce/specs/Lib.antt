@@ -3,3 +3,4 @@ pub mod Elimination
 pub mod Factors
 pub mod Levels
 pub mod UniqueForms
+pub mod Faithful

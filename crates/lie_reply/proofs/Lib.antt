@@ -3,4 +3,5 @@ pub mod WeylLemmas
 pub mod ConstantLemmas
 pub mod TextLemmas
 pub mod FormLemmas
+pub mod OneFormText
 pub mod RowLemmas

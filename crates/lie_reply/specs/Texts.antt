@@ -5,7 +5,7 @@
 --   n | i j k c ..      N_rs, then a term: the exponents, the number of the root i r + j s, and C_ijrs
 --   n | w | r          the length, the least word and the images of the simple roots; `-` stands for an empty list
 --   roots m            then a line for each positive root: its number, its coefficients, its vector and that of its coroot
-use Rattle.std.specs.Prelude.{ℕ, ◌+◌, ◌*◌, nat_eq, if◌then◌else◌, ℤ, pos, List, [], ◌∷◌, ◌++◌, map, flat_map, take, length, codes, decimal}
+use Rattle.std.specs.Prelude.{ℕ, ◌+◌, ◌*◌, Bool, if◌then◌else◌, ℤ, pos, List, [], ◌∷◌, ◌++◌, map, flat_map, take, length, codes, decimal}
 use Rattle.std.specs.Fmt.{signed_decimal}
 use Rattle.lie_const.specs.declared.term.Term.{Term}
 use Rattle.lie_datum.specs.RootDatum.{Base, rank, vector, covector}
@@ -14,6 +14,10 @@ use Rattle.lie_datum.specs.RootList.{RootDatum}
 use Rattle.lie_field.specs.FiniteField.{FiniteField}
 use Rattle.lie_field.specs.Quotient.{order}
 use Rattle.lie_script.specs.Texts.{spaced}
+
+-- the reply to `same`
+abbrev pub same_text : Bool → List ℕ
+same_text joined = if joined then codes "yes\n" else codes "no\n"
 
 -- the reply to `load`, for a carrier of this dimension
 abbrev pub loaded_text : FiniteField → RootDatum → ℕ → List ℕ

@@ -20,5 +20,5 @@ pub use constant::constant_text;
 pub use form::form_text;
 pub use laws::{equal_texts_equal_forms, replies_tell_words};
 pub use modules::{matrix_text, module_text};
-pub use texts::{loaded_text, roots_text};
+pub use texts::{loaded_text, roots_text, same_text};
 pub use weyl::weyl_text;

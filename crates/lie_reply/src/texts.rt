@@ -1,12 +1,24 @@
 //! The texts of replies.
 ghost use Rattle.std.specs.Prelude.{◌≡◌, ◌≤◌, ◌++◌, pos, length, OnOk, IfOk};
 ghost use Rattle.lie_datum.specs.RootList.{root_of};
-ghost use Rattle.lie_reply.specs.Texts.{loaded_text as text_of_load, root_text, roots_text as text_of_roots};
+ghost use Rattle.lie_reply.specs.Texts.{same_text as text_of_same, loaded_text as text_of_load, root_text, roots_text as text_of_roots};
 
 use lie_datum::Datum;
 use lie_field::Field;
 use lie_script::{Text, put_number, put_spaced};
 use std::alloc::{AllocError, Global};
+
+/// `yes` or `no`.
+pub fn same_text(alloc: Global, joined: bool) -> Result<Text, AllocError>
+    ensures { IfOk result (λ text. text ≡ text_of_same joined) }
+{
+    let answer = if joined {
+        b"yes\n".as_slice()
+    } else {
+        b"no\n"
+    };
+    Ok(Text::of(Vec::from_slice(alloc, answer)?))
+}
 
 /// `loaded <elements of the field> <coordinates> <roots> <dimension of the carrier>`.
 pub fn loaded_text(

@@ -103,6 +103,8 @@ commands =
     (codes "form " ++ 128 ∷ [], Err (At fault.Byte 6)) ∷
     (codes "mul n1 ; 1", Ok (line.Mul (N 1 ∷ []) [])) ∷
     (codes "mul 1 n1 ; n1' h(1,2)", Ok (line.Mul (N 1 ∷ []) (Ninv 1 ∷ H (1 ∷ 2 ∷ []) ∷ []))) ∷
+    (codes "same 1 ; n1", Ok (line.Same [] (N 1 ∷ []))) ∷
+    (codes "same n1", Err (At fault.Fields 1)) ∷
     (codes "mul n1 n1", Err (At fault.Fields 2)) ∷
     (codes "mul ; n1", Err (At fault.Fields 2)) ∷
     (codes "mul n1 ;", Err (At fault.Fields 2)) ∷

@@ -39,6 +39,7 @@ Fits awaited sizes listed (line.Coroot v) = (awaited ≡ wants.Coroot) × (lengt
 Fits awaited sizes listed (line.Collect w) = (awaited ≡ wants.Load) × IsWordWithin sizes w
 Fits awaited sizes listed line.Load = awaited ≡ wants.Load
 Fits awaited sizes listed (line.Form w) = (awaited ≡ wants.Command) × IsWordWithin sizes w
+Fits awaited sizes listed (line.Same w v) = (awaited ≡ wants.Command) × IsWordWithin sizes w × IsWordWithin sizes v
 Fits awaited sizes listed (line.Mul w v) = (awaited ≡ wants.Command) × IsWordWithin sizes w × IsWordWithin sizes v
 Fits awaited sizes listed (line.Inv w) = (awaited ≡ wants.Command) × IsWordWithin sizes w
 Fits awaited sizes listed line.Roots = awaited ≡ wants.Command

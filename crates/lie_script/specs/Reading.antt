@@ -32,7 +32,7 @@ abbrev pub keywords : List (List ℕ × Keyword)
 keywords =
     (codes "field", keyword.Field) ∷ (codes "datum", keyword.Datum) ∷ (codes "root", keyword.Root)
     ∷ (codes "coroot", keyword.Coroot) ∷ (codes "collect", keyword.Collect) ∷ (codes "load", keyword.Load)
-    ∷ (codes "form", keyword.Form) ∷ (codes "mul", keyword.Mul) ∷ (codes "inv", keyword.Inv) ∷ (codes "roots", keyword.Roots) ∷ (codes "constant", keyword.Constant) ∷ (codes "weyl", keyword.Weyl)
+    ∷ (codes "form", keyword.Form) ∷ (codes "same", keyword.Same) ∷ (codes "mul", keyword.Mul) ∷ (codes "inv", keyword.Inv) ∷ (codes "roots", keyword.Roots) ∷ (codes "constant", keyword.Constant) ∷ (codes "weyl", keyword.Weyl)
     ∷ (codes "module", keyword.Module) ∷ (codes "matrix", keyword.Matrix) ∷ []
 
 -- the word that the bytes spell
@@ -78,6 +78,9 @@ own_line sizes listed keyword.Load fields = bare_line line.Load fields
 own_line sizes listed keyword.Form fields = do
   w ← word_line sizes fields
   Ok (line.Form w)
+own_line sizes listed keyword.Same fields = do
+  words ← two_words sizes fields
+  Ok (line.Same words.0 words.1)
 own_line sizes listed keyword.Mul fields = do
   words ← two_words sizes fields
   Ok (line.Mul words.0 words.1)

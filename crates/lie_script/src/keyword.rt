@@ -14,6 +14,7 @@ pub enum Keyword {
     Collect,
     Load,
     Form,
+    Same,
     Mul,
     Inv,
     Roots,
@@ -69,6 +70,8 @@ pub(crate) fn keyword_of(bytes: &[u8]) -> Option<Keyword>
         Some(Keyword::Load)
     } else if bytes == b"form".as_slice() {
         Some(Keyword::Form)
+    } else if bytes == b"same".as_slice() {
+        Some(Keyword::Same)
     } else if bytes == b"mul".as_slice() {
         Some(Keyword::Mul)
     } else if bytes == b"inv".as_slice() {

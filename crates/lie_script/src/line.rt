@@ -25,6 +25,11 @@ pub enum Line {
     Collect(Word),
     Load,
     Form(Word),
+    /// Two words, which are compared.
+    Same {
+        w: Word,
+        v: Word,
+    },
     /// Two words, of which the product is meant.
     Mul {
         w: Word,

@@ -70,6 +70,11 @@ fn own_line<N: Names>(
             let (field, datum) = both(field, datum);
             Ok(Line::Form(word_line(alloc, sizes, field, datum, spelled)?))
         }
+        Keyword::Same => {
+            let (field, datum) = both(field, datum);
+            let (w, v) = two_words(alloc, sizes, field, datum, spelled)?;
+            Ok(Line::Same { w, v })
+        }
         Keyword::Mul => {
             let (field, datum) = both(field, datum);
             let (w, v) = two_words(alloc, sizes, field, datum, spelled)?;

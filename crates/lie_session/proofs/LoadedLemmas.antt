@@ -191,6 +191,7 @@ leads_reached (stage.Lines F lines) (line.Coroot v) r there fits h = joined_reac
 leads_reached (stage.Load setting) (line.Collect w) r there fits h = collected_reached setting w h.0 r there h.2
 leads_reached (stage.Load setting) line.Load r there fits h = loaded_reached setting h.0 r there.0 h.1 h.2
 leads_reached (stage.Loaded g) (line.Form w) r there fits h = subst IsReachedBy (sym h.2) there
+leads_reached (stage.Loaded g) (line.Same w v) r there fits h = subst IsReachedBy (sym h.2) there
 leads_reached (stage.Loaded g) (line.Mul w v) r there fits h = subst IsReachedBy (sym h.2) there
 leads_reached (stage.Loaded g) (line.Inv w) r there fits h = subst IsReachedBy (sym h.2) there
 leads_reached (stage.Loaded g) line.Roots r there fits h = subst IsReachedBy (sym h) there

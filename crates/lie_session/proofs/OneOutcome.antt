@@ -39,40 +39,39 @@ use Rattle.lie_reply.specs.Modules.{module_text, matrix_text}
 use Rattle.lie_reply.specs.Texts.{loaded_text}
 use Rattle.lie_reply.proofs.ConstantLemmas.{one_constant_text}
 use Rattle.lie_reply.proofs.WeylLemmas.{one_weyl_text}
+use Rattle.lie_script.specs.Accepted.{Fits}
 use Rattle.lie_script.specs.declared.line.Line.{Line}
 use Rattle.lie_script.specs.declared.line.Line.TheVariants as line
+use Rattle.lie_script.specs.declared.sizes.Wants.TheVariants as wants
 use Rattle.lie_weight.specs.OrbitFaults.{LoadsOrbit}
 use Rattle.lie_weight.specs.declared.faults.ModuleFault.{ModuleFault}
 use Rattle.lie_weight.specs.declared.faults.ModuleFault.TheVariants as orbit_fault
 use Rattle.lie_weight.proofs.OneOrbitAnswer.{one_answer as one_orbit}
-use Rattle.lie_session.specs.Asked.{asked_word}
 use Rattle.lie_session.specs.DatumLines.{DatumLines, opened, padded, with_root, with_coroot, is_whole, base_of}
 use Rattle.lie_session.specs.Faults.{field_words, datum_words, load_words, module_words, audit_words, words_of}
 use Rattle.lie_session.specs.Held.{Setting, LoadedGroup}
-use Rattle.lie_session.specs.Named.{Named, module_of}
+use Rattle.lie_session.specs.Loaded.{HasGroup}
+use Rattle.lie_session.specs.Named.{Named, module_of, listed_of}
 use Rattle.lie_session.specs.Outcomes.{Outcome, quiet, answered, field_outcome, datum_outcome, group_outcome, audit_outcome, with_module, KeepsDatum, PrintsForm, CollectsBy, LoadsBy, NamesModule, NamesMade, Leads}
 use Rattle.lie_session.specs.declared.faults.CallFault.TheVariants as call
-use Rattle.lie_session.specs.State.{field_of, datum_of}
+use Rattle.lie_session.specs.State.{field_of, datum_of, modules_of, wants_of, sizes_of}
 use Rattle.lie_session.specs.declared.faults.CallFault.TheVariants as call
 use Rattle.lie_session.specs.declared.stage.Stage.{Stage}
 use Rattle.lie_session.specs.declared.stage.Stage.TheVariants as stage
 use Rattle.lie_session.proofs.LoadedLemmas.{IsReached}
-
--- the group with other constants
-abbrev pub with_constants : LoadedGroup → ConstantTable → LoadedGroup
-with_constants g c = record g { frame = record g.frame { constants = c } }
+use Rattle.lie_session.proofs.OneWordLemmas.{with_constants, one_text, one_same_text, word_read}
 
 -- one stage, up to constants that say the same
 pub data IsSameStage : Stage → Stage → Type 0 where
   equal : (at : Stage) → IsSameStage at at
   groups : (g : LoadedGroup) (c : ConstantTable) → IsSameTable g.frame.datum g.frame.constants c → IsSameStage (stage.Loaded g) (stage.Loaded (with_constants g c))
 
--- two texts that answer a line that asks for a form: of forms of its word, for frames that say the same
+-- two texts that answer `collect`: of forms of its word, for frames that say the same
 pub record AreFormTexts (at : Stage) (said : Line) (t u : List ℕ) : Type 0 where
   pub word : List Letter
+  pub says : said ≡ line.Collect word
   pub frame : SignedFrame
   pub other : SignedFrame
-  pub asks : asked_word frame.field said ≡ Some word
   pub field_is : field_of at ≡ Some frame.field
   pub datum_is : datum_of at ≡ Some frame.datum
   pub same : IsSameFrame frame other
@@ -238,9 +237,9 @@ collect_once setting w (Ok g) (Ok h) r q loaded m k a b c d =
       equal (stage.Load setting),
       inr (record {
         word = w;
+        says = refl;
         frame = g;
         other = h;
-        asks = refl;
         field_is = ap Some (sym m.field);
         datum_is = ap Some (sym m.datum);
         same = one_frame setting.field setting.datum (Ok g) (Ok h) loaded m k (frame_ok g) (frame_ok h);
@@ -329,61 +328,50 @@ module _ (g : LoadedGroup) (c : ConstantTable) (table : IsSameTable g.frame.datu
   matrix_once text None r q a b = same_quiet r q a b
   matrix_once text (Some v) r q a b = same_answer r q (text v) (text v) a b refl
 
-  -- forms of one word
-  form_once : (w : List Letter) (r q : Outcome) → asked_word g.frame.field said ≡ Some w → PrintsForm (stage.Loaded g) g.frame w r → PrintsForm (stage.Loaded (with_constants g c)) (record g.frame { constants = c }) w q
+  -- a form of one word has one text
+  form_once : HasGroup g → HasGroup (with_constants g c) → (w : List Letter) (r q : Outcome) → PrintsForm (stage.Loaded g) g.frame w r → PrintsForm (stage.Loaded (with_constants g c)) (record g.frame { constants = c }) w q
       → IsSameOutcome (stage.Loaded g) said r q
-  form_once w r q asks x y =
-      by_both (stage.Loaded g) said r q (answered (stage.Loaded g) x.0) (answered (stage.Loaded (with_constants g c)) y.0) x.2 y.2 (
-        groups g c table,
-        inr (record {
-          word = w;
-          frame = g.frame;
-          other = record g.frame { constants = c };
-          asks = asks;
-          field_is = refl;
-          datum_is = refl;
-          same = record { field = refl; datum = refl; constants = table; signs = refl };
-          left = x.1;
-          right = y.1;
-        }),
-      )
+  form_once there here w r q x y = same_answer r q x.0 y.0 x.2 y.2 (one_text g c there here w x.0 y.0 x.1 y.1)
 
 -- commands
-loaded_once : (g : LoadedGroup) (c : ConstantTable) → IsSameTable g.frame.datum g.frame.constants c → (said : Line) (r q : Outcome) → IsLoaded g.frame.datum → IsTold r → IsTold q
+loaded_once : (g : LoadedGroup) (c : ConstantTable) → IsSameTable g.frame.datum g.frame.constants c → (said : Line) (r q : Outcome) → HasGroup g → HasGroup (with_constants g c)
+    → Fits wants.Command (sizes_of (stage.Loaded g)) (listed_of g.modules) said → IsTold r → IsTold q
     → Leads (stage.Loaded g) said r → Leads (stage.Loaded (with_constants g c)) said q → IsSameOutcome (stage.Loaded g) said r q
-loaded_once g c table (line.Form w) r q loaded a b x y = form_once g c table (line.Form w) w r q refl x y
-loaded_once g c table (line.Mul w v) r q loaded a b x y = form_once g c table (line.Mul w v) (w ++ v) r q refl x y
-loaded_once g c table (line.Inv w) r q loaded a b x y = form_once g c table (line.Inv w) (reversed g.frame.field w) r q refl x y
-loaded_once g c table line.Roots r q loaded a b x y = same_answer g c table line.Roots r q _ _ x y refl
-loaded_once g c table (line.Constant p t) r q loaded a b x y = same_answer g c table (line.Constant p t) r q x.0 y.0 x.2 y.2 (one_constant_text g.frame.datum p t x.0 y.0 loaded x.1 y.1)
-loaded_once g c table (line.Weyl indices) r q loaded a b x y = same_answer g c table (line.Weyl indices) r q x.0 y.0 x.2 y.2 (one_weyl_text g.frame.datum indices x.0 y.0 loaded x.1 y.1)
-loaded_once g c table (line.Adjoint name) r q loaded a b x y =
-    module_once g c table (line.Adjoint name) name x.0 r q a b x.2 (subst (λ (v : Module). NamesModule (with_constants g c) name v q) (one_adjoint g.frame.datum loaded y.0 x.0 y.1 x.1) y.2)
-loaded_once g c table (line.Orbit name w) r q loaded a b x y =
-    let is = one_orbit g.frame.datum (eta_of g.frame.signs) (padded w) y.0 x.0 loaded y.1 x.1 (made_told (with_constants g c) name y.0 q y.2 b) (made_told g name x.0 r x.2 a) in
+loaded_once g c table (line.Form w) r q there here fits a b x y = form_once g c table (line.Form w) there here w r q x y
+loaded_once g c table (line.Mul w v) r q there here fits a b x y = form_once g c table (line.Mul w v) there here (w ++ v) r q x y
+loaded_once g c table (line.Inv w) r q there here fits a b x y = form_once g c table (line.Inv w) there here (reversed g.frame.field w) r q x y
+loaded_once g c table (line.Same w v) r q there here fits a b x y =
+    same_answer g c table (line.Same w v) r q x.0 y.0 x.2 y.2 (one_same_text g c there here w v x.0 y.0 (word_read g w there fits.1) (word_read g v there fits.2) x.1 y.1)
+loaded_once g c table line.Roots r q there here fits a b x y = same_answer g c table line.Roots r q _ _ x y refl
+loaded_once g c table (line.Constant p t) r q there here fits a b x y = same_answer g c table (line.Constant p t) r q x.0 y.0 x.2 y.2 (one_constant_text g.frame.datum p t x.0 y.0 there.frame.lawful.lawful.loaded x.1 y.1)
+loaded_once g c table (line.Weyl indices) r q there here fits a b x y = same_answer g c table (line.Weyl indices) r q x.0 y.0 x.2 y.2 (one_weyl_text g.frame.datum indices x.0 y.0 there.frame.lawful.lawful.loaded x.1 y.1)
+loaded_once g c table (line.Adjoint name) r q there here fits a b x y =
+    module_once g c table (line.Adjoint name) name x.0 r q a b x.2 (subst (λ (v : Module). NamesModule (with_constants g c) name v q) (one_adjoint g.frame.datum there.frame.lawful.lawful.loaded y.0 x.0 y.1 x.1) y.2)
+loaded_once g c table (line.Orbit name w) r q there here fits a b x y =
+    let is = one_orbit g.frame.datum (eta_of g.frame.signs) (padded w) y.0 x.0 there.frame.lawful.lawful.loaded y.1 x.1 (made_told (with_constants g c) name y.0 q y.2 b) (made_told g name x.0 r x.2 a) in
     made_once g c table (line.Orbit name w) name x.0 r q a b x.2 (subst (λ z. NamesMade (with_constants g c) name z q) is y.2)
-loaded_once g c table (line.Matrix name w) r q loaded a b x y =
+loaded_once g c table (line.Matrix name w) r q there here fits a b x y =
     matrix_once g c table (line.Matrix name w) (λ v. matrix_text (word_matrix g.frame.field v w)) (module_of g.modules name) r q x y
-loaded_once g c table said r q loaded a b x y = same_quiet g c table said r q x y
+loaded_once g c table said r q there here fits a b x y = same_quiet g c table said r q x y
 
 -- ---- any line
 
 same_table : (D : RootDatum) (c : ConstantTable) → IsSameTable D c c
 same_table D c = record { positive = refl; values = λ r s h k. refl; terms = λ r s h. refl }
 
-at_once : (at : Stage) (said : Line) (r q : Outcome) → IsReached at → IsTold r → IsTold q → Leads at said r → Leads at said q → IsSameOutcome at said r q
-at_once stage.Field (line.Field p k coeffs g) r q there a b x y =
+at_once : (at : Stage) (said : Line) (r q : Outcome) → IsReached at → Fits (wants_of at) (sizes_of at) (listed_of (modules_of at)) said → IsTold r → IsTold q → Leads at said r → Leads at said q → IsSameOutcome at said r q
+at_once stage.Field (line.Field p k coeffs g) r q there fits a b x y =
     same_outcome stage.Field (line.Field p k coeffs g) r q
     (x.2 ∙ field_once (field_data p (map nat_abs coeffs) g) x.0 y.0 x.1 y.1 (told_as r (field_outcome x.0) x.2 a) (told_as q (field_outcome y.0) y.2 b) ∙ sym y.2)
-at_once (stage.Datum F) (line.Datum d l) r q there a b x y = joined_once (stage.Datum F) (line.Datum d l) F (opened d l) (is_whole (opened d l)) r q a b x y
-at_once (stage.Lines F lines) (line.Root v) r q there a b x y = joined_once (stage.Lines F lines) (line.Root v) F (with_root lines v) (is_whole (with_root lines v)) r q a b x y
-at_once (stage.Lines F lines) (line.Coroot v) r q there a b x y = joined_once (stage.Lines F lines) (line.Coroot v) F (with_coroot lines v) (is_whole (with_coroot lines v)) r q a b x y
-at_once (stage.Load setting) (line.Collect w) r q there a b x y = collect_once setting w x.0 y.0 r q there.1 x.1 y.1 a b x.2 y.2
-at_once (stage.Load setting) line.Load r q there a b x y = loads_once setting x.0 y.0 r q there.1 x.1 y.1 a b x.2 y.2
-at_once (stage.Loaded g) said r q there a b x y = loaded_once g g.frame.constants (same_table g.frame.datum g.frame.constants) said r q there.frame.lawful.lawful.loaded a b x y
-at_once at said r q there a b x y = same_outcome at said r q (x ∙ sym y)
+at_once (stage.Datum F) (line.Datum d l) r q there fits a b x y = joined_once (stage.Datum F) (line.Datum d l) F (opened d l) (is_whole (opened d l)) r q a b x y
+at_once (stage.Lines F lines) (line.Root v) r q there fits a b x y = joined_once (stage.Lines F lines) (line.Root v) F (with_root lines v) (is_whole (with_root lines v)) r q a b x y
+at_once (stage.Lines F lines) (line.Coroot v) r q there fits a b x y = joined_once (stage.Lines F lines) (line.Coroot v) F (with_coroot lines v) (is_whole (with_coroot lines v)) r q a b x y
+at_once (stage.Load setting) (line.Collect w) r q there fits a b x y = collect_once setting w x.0 y.0 r q there.1 x.1 y.1 a b x.2 y.2
+at_once (stage.Load setting) line.Load r q there fits a b x y = loads_once setting x.0 y.0 r q there.1 x.1 y.1 a b x.2 y.2
+at_once (stage.Loaded g) said r q there fits a b x y = loaded_once g g.frame.constants (same_table g.frame.datum g.frame.constants) said r q there there fits a b x y
+at_once at said r q there fits a b x y = same_outcome at said r q (x ∙ sym y)
 
 -- a line at two stages that are the same leads to one outcome
-pub leads_once : (at to : Stage) → IsSameStage at to → (said : Line) (r q : Outcome) → IsReached at → IsTold r → IsTold q → Leads at said r → Leads to said q → IsSameOutcome at said r q
-leads_once _ _ (equal at) said r q there a b x y = at_once at said r q there a b x y
-leads_once _ _ (groups g c table) said r q there a b x y = loaded_once g c table said r q there.frame.lawful.lawful.loaded a b x y
+pub leads_once : (at to : Stage) → IsSameStage at to → (said : Line) (r q : Outcome) → IsReached at → IsReached to → Fits (wants_of at) (sizes_of at) (listed_of (modules_of at)) said → IsTold r → IsTold q → Leads at said r → Leads to said q → IsSameOutcome at said r q
+leads_once _ _ (equal at) said r q there here fits a b x y = at_once at said r q there fits a b x y
+leads_once _ _ (groups g c table) said r q there here fits a b x y = loaded_once g c table said r q there here fits a b x y

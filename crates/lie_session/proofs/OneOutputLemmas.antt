@@ -1,17 +1,20 @@
--- Two outputs of a script are the same but for forms.
+-- A script has one output, but for the forms that `collect` prints.
 use Rattle.std.proofs.Common.{◌≡◌, ℕ, ◌+◌, Bool, true, false, cond, ◌||◌, List, [], ◌∷◌, ◌++◌, length, append-nil, Option, Some, None, refl, sym, ap, ap₂, ◌∙◌, subst, ◌⊎◌, inl, inr, Result, Ok, Err}
 use Rattle.std.specs.Bool.{MatchBool}
 use Rattle.std.specs.List.{AllByRecursion}
 use Rattle.std.specs.Option.{IsSome, IsSomeAnd}
+use Rattle.std.specs.Prelude.{IfOk}
+use Rattle.lie_script.specs.Accepted.{Fits}
 use Rattle.lie_script.specs.Reading.{reads}
 use Rattle.lie_script.specs.Texts.{line_fault, refusal, name_of}
 use Rattle.lie_script.specs.declared.faults.Fault.{Fault}
 use Rattle.lie_script.specs.declared.faults.FaultName.TheVariants as fault
 use Rattle.lie_script.specs.declared.line.Line.{Line}
+use Rattle.lie_script.proofs.CallerLemmas.{accepted-fits}
 use Rattle.lie_session.specs.Faults.{Words, words_of}
 use Rattle.lie_session.specs.Lines.{lines_of}
 use Rattle.lie_session.specs.Named.{listed_of}
-use Rattle.lie_session.specs.OneOutput.{AreForms, AreAlike, AreAlikeOutputs, AsksNoForm, OneOutputUpToForms, OneOutputWithoutForms}
+use Rattle.lie_session.specs.OneOutput.{AreForms, AreAlike, AreAlikeOutputs, CollectsNothing, OneOutputUpToCollect, OneOutput}
 use Rattle.lie_session.specs.Outcomes.{Outcome, Leads}
 use Rattle.lie_session.specs.Output.{rests, RepliesTo, AreReplies, bytes_of, has, is_fatal, is_refused, status_of, IsOutput}
 use Rattle.lie_session.specs.Replies.{next_count, over, Refuses, Accepts, Tells, Does, DoesRead, Replies, RepliesAtEnd, SaysLine, line_refusal}
@@ -142,54 +145,55 @@ alike_from s bytes said a b says (inl same) = inl same
 alike_from s bytes said a b says (inr forms) =
     let texts = forms.2 in
     inr (record {
-      said = said;
-      says = says;
       word = texts.word;
+      says = says ∙ ap (λ z. read_as z) texts.says;
       frame = texts.frame;
       other = texts.other;
-      asks = texts.asks;
       field_is = texts.field_is;
       datum_is = texts.datum_is;
       same = texts.same;
       kinds = (forms.0, forms.1);
       left = texts.left;
       right = texts.right;
-    })
+    }) where
+      read_as : Line → Result Line Fault
+      read_as z = Ok z
 
 -- two replies, with one state after them
 abbrev AreReplied : State → List ℕ → Reply → Reply → State → State → Type 0
 AreReplied s bytes a b next other = ((a ≡ b) ⊎ AreForms s bytes a b) × IsSame next other
 
 replied_once : (s t : State) (n : ℕ) (bytes : List ℕ) (read : Result Line Fault) (a b : Reply) (next other : State) → reads (wants_of s.stage) (sizes_of s.stage) (listed_of (modules_of s.stage)) bytes ≡ read
-    → IsReached s.stage → IsSame s t
+    → IsReached s.stage → IsReached t.stage → IsSame s t → IfOk read (Fits (wants_of s.stage) (sizes_of s.stage) (listed_of (modules_of s.stage)))
     → DoesRead s n a next read → DoesRead t n b other read → AreReplied s bytes a b next other
-replied_once s t n bytes (Ok said) a b next other is there same h k =
+replied_once s t n bytes (Ok said) a b next other is there here same fits h k =
     let one = tells_once s.stage said s t n h.0 k.0 a b next other same
-    (leads_once s.stage t.stage same.stages said h.0 k.0 there (told_from s n h.0 a next h.2) (told_from t n k.0 b other k.2) h.1 k.1) h.2 k.2 in
+    (leads_once s.stage t.stage same.stages said h.0 k.0 there here fits (told_from s n h.0 a next h.2) (told_from t n k.0 b other k.2) h.1 k.1) h.2 k.2 in
     (alike_from s bytes said a b is one.0, one.1)
-replied_once s t n bytes (Err why) a b next other is there same h k =
+replied_once s t n bytes (Err why) a b next other is there here same fits h k =
     let one = refuses_once s t (line_refusal n (line_fault why)) a b next other same h k in
     (inl one.0, one.1)
 
 -- two replies to one line are alike
-replies_once : (s t : State) (n : ℕ) (bytes : List ℕ) (a b : Reply) (next other : State) → IsReached s.stage → IsSame s t → Replies s n bytes a next → Replies t n bytes b other → AreReplied s bytes a b next other
-replies_once s t n bytes a b next other there same h k =
-    replied_once s t n bytes (reads (wants_of s.stage) (sizes_of s.stage) (listed_of (modules_of s.stage)) bytes) a b next other refl there same h.told
+replies_once : (s t : State) (n : ℕ) (bytes : List ℕ) (a b : Reply) (next other : State) → IsReached s.stage → IsReached t.stage → IsSame s t → Replies s n bytes a next → Replies t n bytes b other → AreReplied s bytes a b next other
+replies_once s t n bytes a b next other there here same h k =
+    replied_once s t n bytes (reads (wants_of s.stage) (sizes_of s.stage) (listed_of (modules_of s.stage)) bytes) a b next other refl there here same
+    (accepted-fits (wants_of s.stage) (sizes_of s.stage) (listed_of (modules_of s.stage)) bytes) h.told
     (subst (DoesRead t n b other) (sym (read_same s.stage t.stage same.stages bytes)) k.told)
 
 -- replies to lines are alike
-one_run : (mode : Mode) (s t : State) (n : ℕ) (lines : List (List ℕ)) (a b : List Reply) (last end : State) → IsReached s.stage → IsSame s t → RepliesTo mode s n lines a last → RepliesTo mode t n lines b end
+one_run : (mode : Mode) (s t : State) (n : ℕ) (lines : List (List ℕ)) (a b : List Reply) (last end : State) → IsReached s.stage → IsReached t.stage → IsSame s t → RepliesTo mode s n lines a last → RepliesTo mode t n lines b end
     → AreAlike mode s n lines a b × IsSame last end
-one_run mode s t n [] a b last end there same h k = ((h.0, k.0), by_states last end s t h.1 k.1 same)
-one_run mode s t n (bytes ∷ lines) a b last end there same h k =
+one_run mode s t n [] a b last end there here same h k = ((h.0, k.0), by_states last end s t h.1 k.1 same)
+one_run mode s t n (bytes ∷ lines) a b last end there here same h k =
     by_rest (rests mode s) h
     (subst (λ z. MatchBool z ((b ≡ []) × (end ≡ t)) ((r : Reply) × (next : State) × (others : List Reply) × Replies t (n + 1) bytes r next × (b ≡ r ∷ others) × RepliesTo mode next (n + 1) lines others end))
     (sym (rests_same mode s t same)) k)
-    (λ next other others others' reached alike on on'. one_run mode next other (n + 1) lines others others' last end reached alike on on') where
+    (λ next other others others' reached other_reached alike on on'. one_run mode next other (n + 1) lines others others' last end reached other_reached alike on on') where
       by_rest : (rest : Bool)
           → MatchBool rest ((a ≡ []) × (last ≡ s)) ((r : Reply) × (next : State) × (others : List Reply) × Replies s (n + 1) bytes r next × (a ≡ r ∷ others) × RepliesTo mode next (n + 1) lines others last)
           → MatchBool rest ((b ≡ []) × (end ≡ t)) ((r : Reply) × (next : State) × (others : List Reply) × Replies t (n + 1) bytes r next × (b ≡ r ∷ others) × RepliesTo mode next (n + 1) lines others end)
-          → ((next other : State) (others others' : List Reply) → IsReached next.stage → IsSame next other → RepliesTo mode next (n + 1) lines others last → RepliesTo mode other (n + 1) lines others' end
+          → ((next other : State) (others others' : List Reply) → IsReached next.stage → IsReached other.stage → IsSame next other → RepliesTo mode next (n + 1) lines others last → RepliesTo mode other (n + 1) lines others' end
           → AreAlike mode next (n + 1) lines others others' × IsSame last end)
           → MatchBool rest ((a ≡ []) × (b ≡ []))
           ((x : Reply) × (y : Reply) × (next : State) × (xs : List Reply) × (ys : List Reply) × Replies s (n + 1) bytes x next × ((x ≡ y) ⊎ AreForms s bytes x y)
@@ -197,8 +201,8 @@ one_run mode s t n (bytes ∷ lines) a b last end there same h k =
           × IsSame last end
       by_rest true h k on = ((h.0, k.0), by_states last end s t h.1 k.1 same)
       by_rest false h k on =
-          let one = replies_once s t (n + 1) bytes h.0 k.0 h.1 k.1 there same h.3 k.3 in
-          let more = on h.1 k.1 h.2 k.2 (reached_from s (n + 1) bytes h.0 h.1 there h.3) one.1 h.5 k.5 in
+          let one = replies_once s t (n + 1) bytes h.0 k.0 h.1 k.1 there here same h.3 k.3 in
+          let more = on h.1 k.1 h.2 k.2 (reached_from s (n + 1) bytes h.0 h.1 there h.3) (reached_from t (n + 1) bytes k.0 k.1 here k.3) one.1 h.5 k.5 in
           ((h.0, k.0, h.1, h.2, k.2, h.3, one.0, h.4, k.4, more.0), more.1)
 
 -- the reply of the end
@@ -225,7 +229,7 @@ record AreSameRuns (mode : Mode) (input : List ℕ) (a b : List Reply) : Type 0 
 one_script : (mode : Mode) (input : List ℕ) (a b : List Reply) → AreReplies mode input a → AreReplies mode input b → AreSameRuns mode input a b
 one_script mode input a b h k =
     let n = length (lines_of input) in
-    let one = one_run mode fresh fresh 0 (lines_of input) h.0 k.0 h.1 k.1 tt (record { stages = equal stage.Field; refusals = refl; ended = refl }) h.2 k.2 in
+    let one = one_run mode fresh fresh 0 (lines_of input) h.0 k.0 h.1 k.1 tt tt (record { stages = equal stage.Field; refusals = refl; ended = refl }) h.2 k.2 in
     let again : MatchBool (rests mode h.1) (b ≡ k.0) ((r : Reply) × (done : State) × RepliesAtEnd k.1 n r done × (b ≡ k.0 ++ r ∷ [])) =
     subst (λ z. MatchBool z (b ≡ k.0) ((r : Reply) × (done : State) × RepliesAtEnd k.1 n r done × (b ≡ k.0 ++ r ∷ []))) (sym (rests_same mode h.1 k.1 one.1)) k.3 in
     let end = one_end n h.0 k.0 h.1 k.1 a b (rests mode h.1) one.1 h.3 again in
@@ -257,23 +261,21 @@ status_same : (mode : Mode) (input : List ℕ) (a b : List Reply) → AreSameRun
 status_same mode input a b runs =
     ap₂ (λ (fatal : Bool) (refused : Bool). cond fatal LoadRefused (cond refused Refused Done)) (has_same is_fatal mode input a b runs) (has_same is_refused mode input a b runs)
 
--- two outputs of a script are the same but for forms, and have one status
-pub one_output_up_to_forms : OneOutputUpToForms
-one_output_up_to_forms mode input out other status status' h k =
+-- two outputs of a script are the same but for forms that `collect` prints, and have one status
+pub one_output_up_to_collect : OneOutputUpToCollect
+one_output_up_to_collect mode input out other status status' h k =
     let runs = one_script mode input h.0 k.0 h.1 k.1 in (
       (runs.front, runs.back, runs.tail, runs.alike, h.2 ∙ ap bytes_of runs.left, k.2 ∙ ap bytes_of runs.right),
       h.3 ∙ status_same mode input h.0 k.0 runs ∙ sym k.3,
     )
 
--- ---- without forms
+-- ---- without `collect`
 
-no_forms : (s : State) (bytes : List ℕ) (a b : Reply) → AsksNoForm bytes → (a ≡ b) ⊎ AreForms s bytes a b → a ≡ b
-no_forms s bytes a b none (inl same) = same
-no_forms s bytes a b none (inr forms) = absurd (no_word (sym (none s forms.said forms.frame.field forms.says) ∙ forms.asks)) where
-  no_word : None ≡ Some forms.word → ⊥
-  no_word e = absurd cc
+no_collect : (s : State) (bytes : List ℕ) (a b : Reply) → CollectsNothing bytes → (a ≡ b) ⊎ AreForms s bytes a b → a ≡ b
+no_collect s bytes a b none (inl same) = same
+no_collect s bytes a b none (inr forms) = absurd (none s forms.word forms.says)
 
-equal_alike : (mode : Mode) (s : State) (n : ℕ) (lines : List (List ℕ)) (a b : List Reply) → AllByRecursion AsksNoForm lines → AreAlike mode s n lines a b → a ≡ b
+equal_alike : (mode : Mode) (s : State) (n : ℕ) (lines : List (List ℕ)) (a b : List Reply) → AllByRecursion CollectsNothing lines → AreAlike mode s n lines a b → a ≡ b
 equal_alike mode s n [] a b none h = h.0 ∙ sym h.1
 equal_alike mode s n (bytes ∷ lines) a b none h = by_rest (rests mode s) h (λ next xs ys on. equal_alike mode next (n + 1) lines xs ys none.1 on) where
   by_rest : (rest : Bool) → MatchBool rest ((a ≡ []) × (b ≡ []))
@@ -281,11 +283,11 @@ equal_alike mode s n (bytes ∷ lines) a b none h = by_rest (rests mode s) h (λ
       × (a ≡ x ∷ xs) × (b ≡ y ∷ ys) × AreAlike mode next (n + 1) lines xs ys)
       → ((next : State) (xs ys : List Reply) → AreAlike mode next (n + 1) lines xs ys → xs ≡ ys) → a ≡ b
   by_rest true h on = h.0 ∙ sym h.1
-  by_rest false h on = h.7 ∙ ap₂ (λ (r : Reply) (z : List Reply). r ∷ z) (no_forms s bytes h.0 h.1 none.0 h.6) (on h.2 h.3 h.4 h.9) ∙ sym h.8
+  by_rest false h on = h.7 ∙ ap₂ (λ (r : Reply) (z : List Reply). r ∷ z) (no_collect s bytes h.0 h.1 none.0 h.6) (on h.2 h.3 h.4 h.9) ∙ sym h.8
 
--- a script that asks for no form has one output alone
-pub one_output_without_forms : OneOutputWithoutForms
-one_output_without_forms mode input out other status status' none h k =
+-- a script without lines `collect` has one output
+pub one_output : OneOutput
+one_output mode input out other status status' none h k =
     let runs = one_script mode input h.0 k.0 h.1 k.1 in
     let same : h.0 ≡ k.0 = runs.left ∙ ap (λ (z : List Reply). z ++ runs.tail) (equal_alike mode fresh 0 (lines_of input) runs.front runs.back none runs.alike) ∙ sym runs.right in
     (h.2 ∙ ap bytes_of same ∙ sym k.2, h.3 ∙ ap status_of same ∙ sym k.3)

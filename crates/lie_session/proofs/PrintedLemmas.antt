@@ -13,21 +13,22 @@ use Rattle.lie_letters.specs.SignedFrames.{SignedFrame, unsigned}
 use Rattle.lie_letters.specs.Spelled.{IsWordOver, reversed}
 use Rattle.lie_letters.specs.declared.letter.Letter.{Letter}
 use Rattle.lie_letters.proofs.BridgeLemmas.{IsWordOver-append}
-use Rattle.lie_reply.specs.Commands.{FormTextOf}
+use Rattle.lie_letters.specs.GroupSpelled.{JoinedInGroup}
+use Rattle.lie_reduce.proofs.OneForm.{words_have_one_form}
+use Rattle.lie_reply.specs.Commands.{TellsForm, FormTextOf}
+use Rattle.lie_reply.proofs.OneFormText.{one_form_text}
 use Rattle.lie_reply.proofs.TextLemmas.{replies_tell_words}
-use Rattle.lie_script.specs.Accepted.{IsWordWithin, Fits}
-use Rattle.lie_script.specs.Names.{Listed}
+use Rattle.lie_script.specs.Accepted.{Fits}
 use Rattle.lie_script.specs.declared.line.Line.{Line}
 use Rattle.lie_script.specs.declared.line.Line.TheVariants as line
-use Rattle.lie_script.specs.declared.sizes.Sizes.{Sizes}
 use Rattle.lie_script.specs.declared.sizes.Wants.TheVariants as wants
 use Rattle.lie_script.proofs.CallerLemmas.{accepted-fits}
-use Rattle.lie_session.specs.Asked.{asked_word}
+use Rattle.lie_session.specs.Asked.{asked_word, TellsSame}
 use Rattle.lie_session.specs.Held.{Setting, LoadedGroup}
 use Rattle.lie_session.specs.Loaded.{HasGroup}
 use Rattle.lie_session.specs.Named.{listed_of}
 use Rattle.lie_session.specs.Outcomes.{Outcome, answered, PrintsForm, CollectsBy, Leads}
-use Rattle.lie_session.specs.Printed.{Prints, AnswersForm, PrintsOrRefuses, CollectsForm, FormsAreJoined, EqualRepliesAreJoined}
+use Rattle.lie_session.specs.Printed.{Prints, AnswersForm, PrintsOrRefuses, CollectsForm, FormsAreJoined, EqualRepliesDecideWords, AnswersSame, SameDecidesWords}
 use Rattle.lie_session.specs.Output.{RepliesTo}
 use Rattle.lie_session.specs.Replies.{Accepts, Refuses, Tells, Does, DoesRead, Replies, SaysLine}
 use Rattle.lie_session.specs.State.{State, fresh, modules_of, wants_of, sizes_of}
@@ -36,7 +37,9 @@ use Rattle.lie_session.specs.declared.mode.Mode.{Mode}
 use Rattle.lie_session.specs.declared.reply.Reply.{Reply}
 use Rattle.lie_session.specs.declared.stage.Stage.{Stage}
 use Rattle.lie_session.specs.declared.stage.Stage.TheVariants as stage
+use Rattle.lie_unip.specs.Forms.{FormData}
 use Rattle.lie_session.proofs.LoadedLemmas.{IsReached, reached_to}
+use Rattle.lie_session.proofs.OneWordLemmas.{covering_for, word_read}
 
 -- a state at a stage
 abbrev state_at : Stage → ℕ → Bool → State
@@ -54,60 +57,44 @@ no_word w e = absurd cc
 by_word : (g : LoadedGroup) (v w : List Letter) (r : Outcome) → v ≡ w → PrintsForm (stage.Loaded g) g.frame v r ↔ PrintsForm (stage.Loaded g) g.frame w r
 by_word g v w r e = (subst (λ (u : List Letter). PrintsForm (stage.Loaded g) g.frame u r) e, subst (λ (u : List Letter). PrintsForm (stage.Loaded g) g.frame u r) (sym e))
 
--- a line that is awaited and asks for a form leads to the text of one
-print_leads : (g : LoadedGroup) (sizes : Sizes) (listed : Listed) (said : Line) (w : List Letter) (r : Outcome) → Fits wants.Command sizes listed said → asked_word g.frame.field said ≡ Some w
-    → Leads (stage.Loaded g) said r ↔ PrintsForm (stage.Loaded g) g.frame w r
-print_leads g sizes listed (line.Form v) w r fits is = by_word g v w r (one_word v w is)
-print_leads g sizes listed (line.Mul u v) w r fits is = by_word g (u ++ v) w r (one_word (u ++ v) w is)
-print_leads g sizes listed (line.Inv v) w r fits is = by_word g (reversed g.frame.field v) w r (one_word (reversed g.frame.field v) w is)
-print_leads g sizes listed (line.Collect v) w r fits is = absurd (clash fits.0) where
-  clash : wants.Command ≡ wants.Load → ⊥
-  clash e = absurd cc
-print_leads g sizes listed said w r fits is = absurd (no_word w is)
+-- a command that asks for a form leads to the text of one
+print_leads : (g : LoadedGroup) (said : Line) (w : List Letter) (r : Outcome) → asked_word g.frame.field said ≡ Some w → Leads (stage.Loaded g) said r ↔ PrintsForm (stage.Loaded g) g.frame w r
+print_leads g (line.Form v) w r is = by_word g v w r (one_word v w is)
+print_leads g (line.Mul u v) w r is = by_word g (u ++ v) w r (one_word (u ++ v) w is)
+print_leads g (line.Inv v) w r is = by_word g (reversed g.frame.field v) w r (one_word (reversed g.frame.field v) w is)
+print_leads g said w r is = absurd (no_word w is)
 
 module _ (g : LoadedGroup) (k : ℕ) (ended : Bool) (n : ℕ) (bytes : List ℕ) (said : Line) (w : List Letter) (says : SaysLine (state_at (stage.Loaded g) k ended) bytes said)
-    (fits : Fits wants.Command (sizes_of (stage.Loaded g)) (listed_of g.modules) said) (asks : asked_word g.frame.field said ≡ Some w) where
+    (asks : asked_word g.frame.field said ≡ Some w) where
   form_does : (reply : Reply) (next : State) → Replies (state_at (stage.Loaded g) k ended) n bytes reply next ↔ Prints (state_at (stage.Loaded g) k ended) g.frame w reply next
   form_does reply next = (forward, backward) where
     forward : Replies (state_at (stage.Loaded g) k ended) n bytes reply next → Prints (state_at (stage.Loaded g) k ended) g.frame w reply next
     forward r =
         let d : Does (state_at (stage.Loaded g) k ended) n said reply next = subst (DoesRead (state_at (stage.Loaded g) k ended) n reply next) says r.told in
-        let p = (print_leads g (sizes_of (stage.Loaded g)) (listed_of g.modules) said w d.0 fits asks).0 d.1 in
+        let p = (print_leads g said w d.0 asks).0 d.1 in
         (p.0, p.1, subst (λ x. Tells (state_at (stage.Loaded g) k ended) n x reply next) p.2 d.2)
 
     backward : Prints (state_at (stage.Loaded g) k ended) g.frame w reply next → Replies (state_at (stage.Loaded g) k ended) n bytes reply next
     backward p =
         let out = answered (stage.Loaded g) p.0 in
-        let led = (print_leads g (sizes_of (stage.Loaded g)) (listed_of g.modules) said w out fits asks).1 (p.0, p.1, refl) in
+        let led = (print_leads g said w out asks).1 (p.0, p.1, refl) in
         record { told = subst (DoesRead (state_at (stage.Loaded g) k ended) n reply next) (sym says) (out, led, p.2) }
 
 -- a line that asks for a form in a loaded group
 form_from : (g : LoadedGroup) (k : ℕ) (ended : Bool) (n : ℕ) (bytes : List ℕ) (said : Line) (w : FiniteField → List Letter) → HasGroup g → SaysLine (state_at (stage.Loaded g) k ended) bytes said
-    → Fits wants.Command (sizes_of (stage.Loaded g)) (listed_of g.modules) said → asked_word g.frame.field said ≡ Some (w g.frame.field) → IsWordOver (unsigned g.frame) (w g.frame.field)
+    → asked_word g.frame.field said ≡ Some (w g.frame.field) → IsWordOver (unsigned g.frame) (w g.frame.field)
     → AnswersForm (state_at (stage.Loaded g) k ended) n bytes w
-form_from g k ended n bytes said w there says fits asks over = record {
+form_from g k ended n bytes said w there says asks over = record {
   group = g;
   stage_is = refl;
   loaded = there;
   word = over;
-  answers = form_does g k ended n bytes said (w g.frame.field) says fits asks;
+  answers = form_does g k ended n bytes said (w g.frame.field) says asks;
 }
 
 no_command : (b : Bool) → cond b wants.Root wants.Coroot ≡ wants.Command → ⊥
 no_command true h = absurd cc
 no_command false h = absurd cc
-
--- a command is awaited where a group is loaded
-loaded_at : (at : Stage) → wants_of at ≡ wants.Command → (g : LoadedGroup) × (at ≡ stage.Loaded g)
-loaded_at stage.Field h = absurd cc
-loaded_at (stage.Datum F) h = absurd cc
-loaded_at (stage.Lines F lines) h = absurd (no_command _ h)
-loaded_at (stage.Load setting) h = absurd cc
-loaded_at (stage.Loaded g) h = (g, refl)
-
--- a word that was read is one of the group
-word_read : (g : LoadedGroup) (w : List Letter) → HasGroup g → IsWordWithin (sizes_of (stage.Loaded g)) w → IsWordOver (unsigned g.frame) w
-word_read g w there within = within (unsigned g.frame) refl (record { d_is = refl; l_is = refl; m_is = refl }) there.frame.lawful.lawful.loaded
 
 -- the word that a command asks for is one of the group
 word_asked : (g : LoadedGroup) (said : Line) (w : List Letter) → HasGroup g → Fits wants.Command (sizes_of (stage.Loaded g)) (listed_of g.modules) said → asked_word g.frame.field said ≡ Some w
@@ -120,19 +107,55 @@ word_asked g (line.Inv v) w there fits is =
     let lawful = there.frame.lawful in
     subst (IsWordOver (unsigned g.frame)) (one_word r w is)
     (IsWordOver-append (unsigned g.frame) v r (first_over g.frame (v ++ r) [] (reversed_cancels g.frame v lawful (word_read g v there fits.1)))).1
-word_asked g (line.Collect v) w there fits is = absurd (clash fits.0) where
-  clash : wants.Command ≡ wants.Load → ⊥
-  clash e = absurd cc
 word_asked g said w there fits is = absurd (no_word w is)
 
 -- what a line that asks for a form is answered with
 form_at : (at : Stage) (k : ℕ) (ended : Bool) (n : ℕ) (bytes : List ℕ) (said : Line) (w : FiniteField → List Letter) → IsReached at → wants_of at ≡ wants.Command
     → Fits (wants_of at) (sizes_of at) (listed_of (modules_of at)) said → SaysLine (state_at at k ended) bytes said → ((F : FiniteField) → asked_word F said ≡ Some (w F)) → AnswersForm (state_at at k ended) n bytes w
 form_at (stage.Loaded g) k ended n bytes said w there awaited fits says asks =
-    form_from g k ended n bytes said w there says fits (asks g.frame.field) (word_asked g said (w g.frame.field) there fits (asks g.frame.field))
-form_at at k ended n bytes said w there awaited fits says asks = absurd (elsewhere at awaited) where
-  elsewhere : (at : Stage) → wants_of at ≡ wants.Command → ⊥
-  elsewhere at h = absurd cc
+    form_from g k ended n bytes said w there says (asks g.frame.field) (word_asked g said (w g.frame.field) there fits (asks g.frame.field))
+form_at stage.Field k ended n bytes said w there awaited fits says asks = absurd cc
+form_at (stage.Datum F) k ended n bytes said w there awaited fits says asks = absurd cc
+form_at (stage.Lines F lines) k ended n bytes said w there awaited fits says asks = absurd (no_command _ awaited)
+form_at (stage.Load setting) k ended n bytes said w there awaited fits says asks = absurd cc
+
+-- ---- `same`
+
+module _ (g : LoadedGroup) (there : HasGroup g) (k : ℕ) (ended : Bool) (n : ℕ) (bytes : List ℕ) (w v : List Letter) (says : SaysLine (state_at (stage.Loaded g) k ended) bytes (line.Same w v)) where
+  same_does : (reply : Reply) (next : State) → Replies (state_at (stage.Loaded g) k ended) n bytes reply next
+      ↔ ((text : List ℕ) × TellsSame g.frame w v text × Accepts (state_at (stage.Loaded g) k ended) (Some text) reply next)
+  same_does reply next = (forward, backward) where
+    forward : Replies (state_at (stage.Loaded g) k ended) n bytes reply next → (text : List ℕ) × TellsSame g.frame w v text × Accepts (state_at (stage.Loaded g) k ended) (Some text) reply next
+    forward r =
+        let d : Does (state_at (stage.Loaded g) k ended) n (line.Same w v) reply next = subst (DoesRead (state_at (stage.Loaded g) k ended) n reply next) says r.told in
+        (d.1.0, d.1.1, subst (λ x. Tells (state_at (stage.Loaded g) k ended) n x reply next) d.1.2 d.2)
+
+    backward : (text : List ℕ) × TellsSame g.frame w v text × Accepts (state_at (stage.Loaded g) k ended) (Some text) reply next → Replies (state_at (stage.Loaded g) k ended) n bytes reply next
+    backward p = record { told = subst (DoesRead (state_at (stage.Loaded g) k ended) n reply next) (sym says) (answered (stage.Loaded g) p.0, (p.0, p.1, refl), p.2) }
+
+  same_from : Fits wants.Command (sizes_of (stage.Loaded g)) (listed_of g.modules) (line.Same w v) → AnswersSame (state_at (stage.Loaded g) k ended) n bytes w v
+  same_from fits = record {
+    group = g;
+    stage_is = refl;
+    loaded = there;
+    left = word_read g w there fits.1;
+    right = word_read g v there fits.2;
+    answers = same_does;
+  }
+
+same_at : (at : Stage) (k : ℕ) (ended : Bool) (n : ℕ) (bytes : List ℕ) (w v : List Letter) → IsReached at → Fits (wants_of at) (sizes_of at) (listed_of (modules_of at)) (line.Same w v)
+    → SaysLine (state_at at k ended) bytes (line.Same w v) → AnswersSame (state_at at k ended) n bytes w v
+same_at (stage.Loaded g) k ended n bytes w v there fits says = same_from g there k ended n bytes w v says fits
+same_at stage.Field k ended n bytes w v there fits says = absurd (clash fits.0) where
+  clash : wants.Field ≡ wants.Command → ⊥
+  clash e = absurd cc
+same_at (stage.Datum F) k ended n bytes w v there fits says = absurd (clash fits.0) where
+  clash : wants.Datum ≡ wants.Command → ⊥
+  clash e = absurd cc
+same_at (stage.Lines F lines) k ended n bytes w v there fits says = absurd (no_command _ fits.0)
+same_at (stage.Load setting) k ended n bytes w v there fits says = absurd (clash fits.0) where
+  clash : wants.Load ≡ wants.Command → ⊥
+  clash e = absurd cc
 
 -- ---- `collect`
 
@@ -204,31 +227,36 @@ forms_are_joined = record {
       collect_at s.stage s.refusals s.ended n bytes w (reached_to mode lines replies s h) (fits_said s bytes (line.Collect w) says) says;
 }
 
+pub same_decides_words : SameDecidesWords
+same_decides_words mode lines replies s n bytes w v h says =
+    same_at s.stage s.refusals s.ended n bytes w v (reached_to mode lines replies s h) (fits_said s bytes (line.Same w v) says) says
+
 -- ---- equal replies
 
--- what a reply to a line that asks for a form prints
+-- what a reply to a command that asks for a form prints
 printed_at : (at : Stage) (g : LoadedGroup) (k : ℕ) (ended : Bool) (n : ℕ) (bytes : List ℕ) (said : Line) (w : List Letter) (reply : Reply) (next : State) → at ≡ stage.Loaded g
-    → Fits (wants_of at) (sizes_of at) (listed_of (modules_of at)) said → SaysLine (state_at at k ended) bytes said → asked_word g.frame.field said ≡ Some w
-    → Replies (state_at at k ended) n bytes reply next → FormTextOf g.frame w reply.bytes
-printed_at at g k ended n bytes said w reply next is = subst Prints_at (sym is) at_group where
-  abbrev Prints_at : Stage → Type 0
-  Prints_at at = Fits (wants_of at) (sizes_of at) (listed_of (modules_of at)) said → SaysLine (state_at at k ended) bytes said → asked_word g.frame.field said ≡ Some w
-      → Replies (state_at at k ended) n bytes reply next → FormTextOf g.frame w reply.bytes
+    → SaysLine (state_at at k ended) bytes said → asked_word g.frame.field said ≡ Some w → Replies (state_at at k ended) n bytes reply next → FormTextOf g.frame w reply.bytes
+printed_at at g k ended n bytes said w reply next is = subst PrintsAt (sym is) at_group where
+  abbrev PrintsAt : Stage → Type 0
+  PrintsAt at = SaysLine (state_at at k ended) bytes said → asked_word g.frame.field said ≡ Some w → Replies (state_at at k ended) n bytes reply next → FormTextOf g.frame w reply.bytes
 
-  at_group : Prints_at (stage.Loaded g)
-  at_group fits says asks r =
-      let p = (form_does g k ended n bytes said w says fits asks reply next).0 r in
+  at_group : PrintsAt (stage.Loaded g)
+  at_group says asks r =
+      let p = (form_does g k ended n bytes said w says asks reply next).0 r in
       subst (λ (z : List ℕ). FormTextOf g.frame w z) (sym (ap (λ (x : Reply). x.bytes) p.2.0)) p.1
 
--- a loaded group that a script leads to is one
-group_reached : (s : State) (g : LoadedGroup) → IsReached s.stage → s.stage ≡ stage.Loaded g → HasGroup g
-group_reached s g there is = subst IsReached is there
+-- two texts of forms are equal exactly if the words are joined
+texts_decide : (g : LoadedGroup) → HasGroup g → (w v : List Letter) (t u : List ℕ) → FormTextOf g.frame w t → FormTextOf g.frame v u → (t ≡ u) ↔ JoinedInGroup g.frame w v
+texts_decide g there w v t u x y = (
+  λ same. replies_tell_words g.frame w v u there.frame.lawful there.sized (subst (λ (z : List ℕ). FormTextOf g.frame w z) same x) y,
+  λ joined.
+      (let one = (words_have_one_form g.frame g.carrier (covering_for g there) x.form y.form w v x.stands y.stands).0 joined in
+      one_form_text g.frame.datum there.frame.lawful.lawful.loaded x.form t u x.tells (subst (λ (z : FormData). TellsForm g.frame.datum z u) (sym one) y.tells)),
+)
 
-pub equal_replies_are_joined : EqualRepliesAreJoined
-equal_replies_are_joined mode other_mode lines other_lines replies other_replies s t g h n m bytes other said told w v a b next after run other_run s_is t_is frames says other_says asks other_asks r q same =
-    let there = group_reached s g (reached_to mode lines replies s run) s_is in
-    let x = printed_at s.stage g s.refusals s.ended n bytes said w a next s_is (fits_said s bytes said says) says asks r in
-    let y = printed_at t.stage h t.refusals t.ended m other told v b after t_is (fits_said t other told other_says) other_says other_asks q in
-    let left : FormTextOf g.frame w b.bytes = subst (λ (z : List ℕ). FormTextOf g.frame w z) same x in
-    let right : FormTextOf g.frame v b.bytes = subst (λ (f : SignedFrame). FormTextOf f v b.bytes) (sym frames) y in
-    replies_tell_words g.frame w v b.bytes there.frame.lawful there.sized left right
+pub equal_replies_decide_words : EqualRepliesDecideWords
+equal_replies_decide_words mode other_mode lines other_lines replies other_replies s t g h n m bytes other said told w v a b next after run other_run s_is t_is frames says other_says asks other_asks r q =
+    let there : HasGroup g = subst IsReached s_is (reached_to mode lines replies s run) in
+    let x = printed_at s.stage g s.refusals s.ended n bytes said w a next s_is says asks r in
+    let y = printed_at t.stage h t.refusals t.ended m other told v b after t_is other_says other_asks q in
+    texts_decide g there w v a.bytes b.bytes x (subst (λ (f : SignedFrame). FormTextOf f v b.bytes) (sym frames) y)

@@ -111,6 +111,10 @@ module_held f modules name v h is =
 
 commands_from : (g : LoadedGroup) (said : Line) → Fits (wants_of (stage.Loaded g)) (sizes_of (stage.Loaded g)) (listed_of g.modules) said → Commands g said
 commands_from g (line.Form w) fits = λ axioms c. fits.1 (frame_with g.frame.field g.frame.datum c) refl (record { d_is = refl; l_is = refl; m_is = refl }) axioms
+commands_from g (line.Same w v) fits = (
+  λ axioms c. fits.1 (frame_with g.frame.field g.frame.datum c) refl (record { d_is = refl; l_is = refl; m_is = refl }) axioms,
+  λ axioms c. fits.2 (frame_with g.frame.field g.frame.datum c) refl (record { d_is = refl; l_is = refl; m_is = refl }) axioms,
+)
 commands_from g (line.Mul w v) fits = (
   λ axioms c. fits.1 (frame_with g.frame.field g.frame.datum c) refl (record { d_is = refl; l_is = refl; m_is = refl }) axioms,
   λ axioms c. fits.2 (frame_with g.frame.field g.frame.datum c) refl (record { d_is = refl; l_is = refl; m_is = refl }) axioms,

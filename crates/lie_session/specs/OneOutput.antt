@@ -1,15 +1,13 @@
--- How far a script fixes its output: two outputs are the same but for the forms that `form`, `mul`, `inv` and `collect` print.
--- Own. That joined forms are equal is not said here: each of these replies may be the text of any form that is joined to the word.
-use Rattle.std.specs.Prelude.{◌≡◌, ◌⊎◌, ℕ, ◌+◌, List, [], ◌∷◌, ◌++◌, Some, None}
+-- A script has one output, but for the forms that `collect` prints.
+-- Own. `collect` comes before the group is loaded: where no covering module is known, its reply may be the text of any form that is joined to the word.
+use Rattle.std.specs.Prelude.{◌≡◌, ◌⊎◌, ℕ, ◌+◌, List, [], ◌∷◌, ◌++◌, Some}
 use Rattle.std.specs.Bool.{MatchBool}
 use Rattle.std.specs.List.{AllByRecursion}
-use Rattle.lie_field.specs.FiniteField.{FiniteField}
 use Rattle.lie_group.specs.Loading.{IsSameFrame}
 use Rattle.lie_letters.specs.SignedFrames.{SignedFrame}
 use Rattle.lie_letters.specs.declared.letter.Letter.{Letter}
 use Rattle.lie_reply.specs.Commands.{FormTextOf}
-use Rattle.lie_script.specs.declared.line.Line.{Line}
-use Rattle.lie_session.specs.Asked.{asked_word}
+use Rattle.lie_script.specs.declared.line.Line.TheVariants as line
 use Rattle.lie_session.specs.Lines.{lines_of}
 use Rattle.lie_session.specs.Output.{rests, bytes_of, IsOutput}
 use Rattle.lie_session.specs.Replies.{Replies, SaysLine}
@@ -19,15 +17,13 @@ use Rattle.lie_session.specs.declared.reply.Kind.TheVariants as kind
 use Rattle.lie_session.specs.declared.reply.Reply.{Reply}
 use Rattle.lie_session.specs.declared.status.Status.{Status}
 
--- In the state, a and b are answers to one line that asks for a form: texts of forms of its word, for frames of the field and the datum of the
+-- In the state, a and b are answers to one line `collect`: texts of forms of its word, for frames of the field and the datum of the
 -- session, whose constants say the same and whose signs are the same.
 pub record AreForms (s : State) (bytes : List ℕ) (a b : Reply) : Type 0 where
-  pub said : Line
-  pub says : SaysLine s bytes said
   pub word : List Letter
+  pub says : SaysLine s bytes (line.Collect word)
   pub frame : SignedFrame
   pub other : SignedFrame
-  pub asks : asked_word frame.field said ≡ Some word
   pub field_is : field_of s.stage ≡ Some frame.field
   pub datum_is : datum_of s.stage ≡ Some frame.datum
   pub same : IsSameFrame frame other
@@ -49,18 +45,18 @@ abbrev pub AreAlikeOutputs : Mode → List ℕ → List ℕ → List ℕ → Typ
 AreAlikeOutputs mode input out other =
     (a : List Reply) × (b : List Reply) × (tail : List Reply) × AreAlike mode fresh 0 (lines_of input) a b × (out ≡ bytes_of (a ++ tail)) × (other ≡ bytes_of (b ++ tail))
 
--- two outputs of a script are the same but for forms, and have one status
-abbrev pub OneOutputUpToForms : Type 0
-OneOutputUpToForms =
+-- two outputs of a script are the same but for forms that `collect` prints, and have one status
+abbrev pub OneOutputUpToCollect : Type 0
+OneOutputUpToCollect =
     (mode : Mode) (input out other : List ℕ) (status status' : Status) → IsOutput mode input out status → IsOutput mode input other status'
     → AreAlikeOutputs mode input out other × (status ≡ status')
 
--- in no state does the line ask for a form
-abbrev pub AsksNoForm : List ℕ → Type 0
-AsksNoForm bytes = (s : State) (said : Line) (F : FiniteField) → SaysLine s bytes said → asked_word F said ≡ None
+-- in no state does the line say `collect`
+abbrev pub CollectsNothing : List ℕ → Type 0
+CollectsNothing bytes = (s : State) (w : List Letter) → ¬ SaysLine s bytes (line.Collect w)
 
--- a script that asks for no form has one output alone, with one status
-abbrev pub OneOutputWithoutForms : Type 0
-OneOutputWithoutForms =
-    (mode : Mode) (input out other : List ℕ) (status status' : Status) → AllByRecursion AsksNoForm (lines_of input) → IsOutput mode input out status
+-- a script without lines `collect` has one output, with one status
+abbrev pub OneOutput : Type 0
+OneOutput =
+    (mode : Mode) (input out other : List ℕ) (status status' : Status) → AllByRecursion CollectsNothing (lines_of input) → IsOutput mode input out status
     → IsOutput mode input other status' → (out ≡ other) × (status ≡ status')

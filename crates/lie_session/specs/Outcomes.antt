@@ -30,6 +30,7 @@ use Rattle.lie_script.specs.declared.line.Line.{Line}
 use Rattle.lie_script.specs.declared.line.Line.TheVariants as line
 use Rattle.lie_weight.specs.OrbitFaults.{LoadsOrbit}
 use Rattle.lie_weight.specs.declared.faults.ModuleFault.{ModuleFault}
+use Rattle.lie_session.specs.Asked.{TellsSame}
 use Rattle.lie_session.specs.DatumLines.{DatumLines, opened, padded, with_root, with_coroot, is_whole, base_of}
 use Rattle.lie_session.specs.Held.{Setting, LoadedGroup}
 use Rattle.lie_session.specs.Named.{module_of}
@@ -153,6 +154,7 @@ Leads (stage.Lines F lines) (line.Coroot v) r = ReadsDatum F (with_coroot lines 
 Leads (stage.Load setting) (line.Collect w) r = Collects setting w r
 Leads (stage.Load setting) line.Load r = Loads setting r
 Leads (stage.Loaded g) (line.Form w) r = PrintsForm (stage.Loaded g) g.frame w r
+Leads (stage.Loaded g) (line.Same w v) r = Says g (TellsSame g.frame w v) r
 Leads (stage.Loaded g) (line.Mul w v) r = PrintsForm (stage.Loaded g) g.frame (w ++ v) r
 Leads (stage.Loaded g) (line.Inv w) r = PrintsForm (stage.Loaded g) g.frame (reversed g.frame.field w) r
 Leads (stage.Loaded g) line.Roots r = r ≡ answered (stage.Loaded g) (roots_text g.frame.datum)

@@ -1,4 +1,4 @@
--- What the replies to `form`, `mul`, `inv` and `collect` are: texts of forms that are joined to their words.
+-- What the replies to `form`, `mul`, `inv` and `collect` are, texts of forms that are joined to their words, and those to `same`.
 -- Source: Carter, Simple Groups of Lie Type, 8.4 (the normal form); Steinberg, Lectures on Chevalley Groups, 6 (generators and relations).
 -- Own: the statements. `collect` comes before `load`: its forms are joined to their words whatever `load` says later.
 use Rattle.std.specs.Prelude.{◌≡◌, ◌⊎◌, ◌↔◌, ◌++◌, ℕ, List, Some}
@@ -16,7 +16,7 @@ use Rattle.lie_reply.specs.Commands.{FormTextOf}
 use Rattle.lie_script.specs.Texts.{refusal}
 use Rattle.lie_script.specs.declared.line.Line.{Line}
 use Rattle.lie_script.specs.declared.line.Line.TheVariants as line
-use Rattle.lie_session.specs.Asked.{asked_word}
+use Rattle.lie_session.specs.Asked.{asked_word, TellsSame}
 use Rattle.lie_session.specs.Faults.{load_words}
 use Rattle.lie_session.specs.Held.{Setting, LoadedGroup}
 use Rattle.lie_session.specs.Loaded.{HasGroup}
@@ -64,11 +64,27 @@ pub record FormsAreJoined : Type 0 where
   pub collect : (mode : Mode) (lines : List (List ℕ)) (replies : List Reply) (s : State) (n : ℕ) (bytes : List ℕ) (w : List Letter) →
       RepliesTo mode fresh 0 lines replies s → SaysLine s bytes (line.Collect w) → CollectsForm s n bytes w
 
--- s and t are states that scripts lead to, and the groups that are loaded there have one frame: two lines that ask for forms, and have the same reply, ask for forms of joined words
-abbrev pub EqualRepliesAreJoined : Type 0
-EqualRepliesAreJoined =
+-- s and t are states that scripts lead to, and the groups that are loaded there have one frame: two commands that ask for forms have the same
+-- reply exactly if the words whose forms they ask for are joined
+abbrev pub EqualRepliesDecideWords : Type 0
+EqualRepliesDecideWords =
     (mode other_mode : Mode) (lines other_lines : List (List ℕ)) (replies other_replies : List Reply) (s t : State) (g h : LoadedGroup) (n m : ℕ) (bytes other : List ℕ) (said told : Line) (w v : List Letter)
     (a b : Reply) (next after : State)
     → RepliesTo mode fresh 0 lines replies s → RepliesTo other_mode fresh 0 other_lines other_replies t → s.stage ≡ stage.Loaded g → t.stage ≡ stage.Loaded h → g.frame ≡ h.frame
     → SaysLine s bytes said → SaysLine t other told → asked_word g.frame.field said ≡ Some w → asked_word h.frame.field told ≡ Some v
-    → Replies s n bytes a next → Replies t m other b after → a.bytes ≡ b.bytes → JoinedInGroup g.frame w v
+    → Replies s n bytes a next → Replies t m other b after → (a.bytes ≡ b.bytes) ↔ JoinedInGroup g.frame w v
+
+-- w and v are words of a loaded group, and the reply to the line says whether they are joined
+pub record AnswersSame (s : State) (n : ℕ) (bytes : List ℕ) (w v : List Letter) : Type 0 where
+  pub group : LoadedGroup
+  pub stage_is : s.stage ≡ stage.Loaded group
+  pub loaded : HasGroup group
+  pub left : IsWordOver (unsigned group.frame) w
+  pub right : IsWordOver (unsigned group.frame) v
+  pub answers : (reply : Reply) (next : State) → Replies s n bytes reply next ↔ ((text : List ℕ) × TellsSame group.frame w v text × Accepts s (Some text) reply next)
+
+-- in each state that a script leads to, each line `same` is answered so
+abbrev pub SameDecidesWords : Type 0
+SameDecidesWords =
+    (mode : Mode) (lines : List (List ℕ)) (replies : List Reply) (s : State) (n : ℕ) (bytes : List ℕ) (w v : List Letter) →
+    RepliesTo mode fresh 0 lines replies s → SaysLine s bytes (line.Same w v) → AnswersSame s n bytes w v

@@ -20,6 +20,7 @@ use Rattle.lie_session.specs.declared.stage.Stage.TheVariants as stage
 -- a command fits the group
 abbrev pub Commands : LoadedGroup → Line → Type 0
 Commands g (line.Form w) = IsLoaded g.frame.datum → IsWordFor g.frame.field g.frame.datum w
+Commands g (line.Same w v) = (IsLoaded g.frame.datum → IsWordFor g.frame.field g.frame.datum w) × (IsLoaded g.frame.datum → IsWordFor g.frame.field g.frame.datum v)
 Commands g (line.Mul w v) = (IsLoaded g.frame.datum → IsWordFor g.frame.field g.frame.datum w) × (IsLoaded g.frame.datum → IsWordFor g.frame.field g.frame.datum v)
 Commands g (line.Inv w) = IsLoaded g.frame.datum → IsWordFor g.frame.field g.frame.datum w
 Commands g (line.Constant p q) = IsPair g.frame.datum p q

@@ -8,6 +8,7 @@ ghost use Rattle.lie_datum.specs.RootList.{IsLoaded};
 ghost use Rattle.lie_identities.specs.Audit.{HasLightWeights};
 ghost use Rattle.lie_letters.specs.Spelled.{reversed};
 ghost use Rattle.lie_reply.specs.Commands.{FormTextOf, ConstantTextOf};
+ghost use Rattle.lie_session.specs.Asked.{TellsSame};
 ghost use Rattle.lie_session.specs.DatumLines.{padded as with_zeros};
 ghost use Rattle.lie_session.specs.Named.{module_of};
 
@@ -20,7 +21,9 @@ use lie_datum::Datum;
 use lie_field::Field;
 use lie_group::{Group, LoadFault, make_frame};
 use lie_letters::{Frame, Word};
-use lie_reply::{constant_text, form_text, matrix_text, module_text, roots_text, weyl_text};
+use lie_reply::{
+    constant_text, form_text, matrix_text, module_text, roots_text, same_text, weyl_text,
+};
 use lie_script::{Line, Numbers, Text};
 use lie_weight::Module;
 use std::alloc::{AllocError, Global};
@@ -195,6 +198,20 @@ impl LoadedGroup {
         constant_text(alloc, &frame.datum, &frame.constants, r, s)
     }
 
+    /// The answer whether two words are joined.
+    fn same(&self, alloc: Global, w: &Word, v: &Word) -> Result<Text, AllocError>
+        requires left { IsLoaded self.now.frame.datum → IsWordFor self.now.frame.field self.now.frame.datum w.now }
+        requires right { IsLoaded self.now.frame.datum → IsWordFor self.now.frame.field self.now.frame.datum v.now }
+        ensures { IfOk result (λ text. TellsSame self.now.frame w.now v.now text) }
+    {
+        self.group.lawful();
+        let frame = self.frame();
+        frame.lawful();
+        let w = form(alloc, frame, w)?;
+        let v = form(alloc, frame, v)?;
+        same_text(alloc, w.same(&v))
+    }
+
     /// The rows of the matrix of a word on the module of a name; none where no module has the name.
     fn matrix(&self, alloc: Global, name: &[u8], w: &Word) -> Result<Option<Text>, AllocError>
         requires { IsLoaded self.now.frame.datum → IsWordFor self.now.frame.field self.now.frame.datum w.now }
@@ -264,6 +281,7 @@ impl LoadedGroup {
     {
         match line {
             Line::Form(w) => Ok(Some(printed(alloc, self.frame(), &w)?)),
+            Line::Same { w, v } => Ok(Some(self.same(alloc, &w, &v)?)),
             Line::Mul { w, v } => Ok(Some(multiplied(alloc, self.frame(), &w, &v)?)),
             Line::Inv(w) => Ok(Some(inverted(alloc, self.frame(), &w)?)),
             Line::Roots => Ok(Some(roots_text(alloc, &self.frame().datum)?)),

@@ -2,9 +2,9 @@
 ghost use Rattle.std.specs.Prelude.{◌≡◌, ◌≢◌, ◌≤◌, ◌↔◌, false, length, map, Some, None, IfSome};
 ghost use Rattle.std.specs.String.{string_bytes};
 ghost use Rattle.lie_session.specs.Output.{FieldsAreSized, DataAreLoaded};
-ghost use Rattle.lie_session.specs.OneOutput.{OneOutputUpToForms, OneOutputWithoutForms};
-ghost use Rattle.lie_session.specs.Printed.{FormsAreJoined, EqualRepliesAreJoined};
-ghost use Rattle.lie_session.specs.Loaded.{GroupsAreLoaded, MatricesAreProducts};
+ghost use Rattle.lie_session.specs.OneOutput.{OneOutputUpToCollect, OneOutput};
+ghost use Rattle.lie_session.specs.Printed.{FormsAreJoined, EqualRepliesDecideWords, SameDecidesWords};
+ghost use Rattle.lie_session.specs.Loaded.{GroupsAreLoaded, MatricesAreProducts, JoinedWordsHaveOneMatrix};
 ghost use Rattle.lie_session.specs.Runs.{mode_of, input_limit, Cause, CauseOf, ReadCounts, WriteCounts, Complete, Exceeds};
 ghost use Rattle.lie_session.specs.Steps.{stop_status, Answered, AnsweredAtEnd, Replied};
 ghost use Rattle.lie_session.specs.State.{ended_status};
@@ -138,19 +138,22 @@ pub fn lie<S: Source, K: Sink>(
     ensures complete { IfSome (mode_of (map string_bytes words.now)) (λ mode. Complete mode (S.left source.old) (K.written sink.old) (K.written sink.new) (S.faults source.old) (S.faults source.new) (K.faults sink.old) (K.faults sink.new) result) }
     ensures exceeds { IfSome (mode_of (map string_bytes words.now)) (λ mode. Exceeds (S.left source.old) (S.faults source.old) (S.faults source.new) result) }
 
-    // What the replies are worth: there is one output up to the forms that are printed, each word prints a form that
-    // is joined to it, and equal replies to `form` mean joined words.
-    ensures one { OneOutputUpToForms }
-    ensures formless { OneOutputWithoutForms }
+    // What the replies are worth: there is one output, but for the forms that `collect` prints; each word prints a form
+    // that is joined to it; and two words print the same bytes exactly if they are joined.
+    ensures one { OneOutput }
+    ensures collected { OneOutputUpToCollect }
     ensures forms { FormsAreJoined }
-    ensures words { EqualRepliesAreJoined }
+    ensures words { EqualRepliesDecideWords }
+    ensures same { SameDecidesWords }
     ensures sized { FieldsAreSized }
     ensures sound { DataAreLoaded }
 
-    // What the lines have brought: a loaded group is one, its named modules are built from it, and the reply to `matrix`
-    // has the rows of the product of the matrices of the letters on such a module.
+    // What the lines have brought: a loaded group is one, with a carrier that is audited and covering; its named modules are
+    // built from it and audited; the reply to `matrix` has the rows of the product of the matrices of the letters on such a
+    // module, and joined words have the same rows.
     ensures loaded { GroupsAreLoaded }
     ensures matrices { MatricesAreProducts }
+    ensures joined_matrices { JoinedWordsHaveOneMatrix }
 {
     match asked(words) {
         Some(mode) => run(alloc, mode, source, sink),

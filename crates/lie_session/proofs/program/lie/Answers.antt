@@ -1,8 +1,8 @@
 use Rattle.std.proofs.Common.{sym, ◌∙◌}
 use Rattle.lie_session.proofs.CauseLemmas.{complete_from}
-use Rattle.lie_session.proofs.LoadedLemmas.{fields_are_sized, data_are_loaded, groups_are_loaded, matrices_are_products}
-use Rattle.lie_session.proofs.OneOutputLemmas.{one_output_up_to_forms, one_output_without_forms}
-use Rattle.lie_session.proofs.PrintedLemmas.{forms_are_joined, equal_replies_are_joined}
+use Rattle.lie_session.proofs.LoadedLemmas.{fields_are_sized, data_are_loaded, groups_are_loaded, matrices_are_products, joined_words_have_one_matrix}
+use Rattle.lie_session.proofs.OneOutputLemmas.{one_output_up_to_collect, one_output}
+use Rattle.lie_session.proofs.PrintedLemmas.{forms_are_joined, equal_replies_decide_words, same_decides_words}
 use Rattle.lie_session.proofs.program.lie.Goals as goal
 
 pub returns-in-Some-clause-complete : goal.returns-in-Some-clause-complete
@@ -12,16 +12,19 @@ returns-in-Some-clause-complete g c =
     _ _ _ _ c.run.result c.run.ensures.read c.run.ensures.written c.run.ensures.cause)
 
 pub returns-in-Some-clause-one : goal.returns-in-Some-clause-one
-returns-in-Some-clause-one g c = one_output_up_to_forms
+returns-in-Some-clause-one g c = one_output
 
-pub returns-in-Some-clause-formless : goal.returns-in-Some-clause-formless
-returns-in-Some-clause-formless g c = one_output_without_forms
+pub returns-in-Some-clause-collected : goal.returns-in-Some-clause-collected
+returns-in-Some-clause-collected g c = one_output_up_to_collect
 
 pub returns-in-Some-clause-forms : goal.returns-in-Some-clause-forms
 returns-in-Some-clause-forms g c = forms_are_joined
 
 pub returns-in-Some-clause-words : goal.returns-in-Some-clause-words
-returns-in-Some-clause-words g c = equal_replies_are_joined
+returns-in-Some-clause-words g c = equal_replies_decide_words
+
+pub returns-in-Some-clause-same : goal.returns-in-Some-clause-same
+returns-in-Some-clause-same g c = same_decides_words
 
 pub returns-in-Some-clause-sized : goal.returns-in-Some-clause-sized
 returns-in-Some-clause-sized g c = fields_are_sized
@@ -35,17 +38,23 @@ returns-in-Some-clause-loaded g c = groups_are_loaded
 pub returns-in-Some-clause-matrices : goal.returns-in-Some-clause-matrices
 returns-in-Some-clause-matrices g c = matrices_are_products
 
-pub returns-in-None-clause-one : goal.returns-in-None-clause-one
-returns-in-None-clause-one g c = one_output_up_to_forms
+pub returns-in-Some-clause-joined_matrices : goal.returns-in-Some-clause-joined_matrices
+returns-in-Some-clause-joined_matrices g c = joined_words_have_one_matrix
 
-pub returns-in-None-clause-formless : goal.returns-in-None-clause-formless
-returns-in-None-clause-formless g c = one_output_without_forms
+pub returns-in-None-clause-one : goal.returns-in-None-clause-one
+returns-in-None-clause-one g c = one_output
+
+pub returns-in-None-clause-collected : goal.returns-in-None-clause-collected
+returns-in-None-clause-collected g c = one_output_up_to_collect
 
 pub returns-in-None-clause-forms : goal.returns-in-None-clause-forms
 returns-in-None-clause-forms g c = forms_are_joined
 
 pub returns-in-None-clause-words : goal.returns-in-None-clause-words
-returns-in-None-clause-words g c = equal_replies_are_joined
+returns-in-None-clause-words g c = equal_replies_decide_words
+
+pub returns-in-None-clause-same : goal.returns-in-None-clause-same
+returns-in-None-clause-same g c = same_decides_words
 
 pub returns-in-None-clause-sized : goal.returns-in-None-clause-sized
 returns-in-None-clause-sized g c = fields_are_sized
@@ -58,3 +67,6 @@ returns-in-None-clause-loaded g c = groups_are_loaded
 
 pub returns-in-None-clause-matrices : goal.returns-in-None-clause-matrices
 returns-in-None-clause-matrices g c = matrices_are_products
+
+pub returns-in-None-clause-joined_matrices : goal.returns-in-None-clause-joined_matrices
+returns-in-None-clause-joined_matrices g c = joined_words_have_one_matrix
