@@ -39,9 +39,6 @@ DATA = {
 # The characteristic, the coefficients below the leading one, and a generator of the units, by the number of elements.
 FIELDS = {2: (2, [0], 1), 3: (3, [0], 2), 4: (2, [1, 1], 2), 5: (5, [0], 2)}
 
-# Whether the reply to `load` has the dimension of the carrier in place of `-`.
-LOAD_HAS_DIMENSION = False
-
 # An element for each positive root, a torus vector, a least word counted from 1, and elements again, 0 where w keeps the root positive.
 Form = namedtuple("Form", "u h w v")
 
@@ -308,8 +305,7 @@ class Group:
 
     def loaded(self):
         """The reply to `load`."""
-        dimension = str(self.carrier_dimension()) if LOAD_HAS_DIMENSION else "-"
-        return "loaded %d %d %d %s" % (self.field.q, self.datum.dim, 2 * self.datum.m, dimension)
+        return "loaded %d %d %d %d" % (self.field.q, self.datum.dim, 2 * self.datum.m, self.carrier_dimension())
 
 
 class Relations:
