@@ -197,8 +197,8 @@ own_line-fits sizes listed keyword.Coroot fields = bind-all (Fits wants.Coroot s
 own_line-fits sizes listed keyword.Collect fields = bind-all (Fits wants.Load sizes listed) (word_line sizes fields) _ (λ w is. (refl, word_line-within sizes fields w is))
 own_line-fits sizes listed keyword.Load fields = unless-all (Fits wants.Load sizes listed) (nat_eq (length fields) 0) _ _ (λ counted. refl)
 own_line-fits sizes listed keyword.Form fields = bind-all (Fits wants.Command sizes listed) (word_line sizes fields) _ (λ w is. (refl, word_line-within sizes fields w is))
-own_line-fits sizes listed keyword.Same fields = bind-all (Fits wants.Command sizes listed) (two_words sizes fields) _ (λ words are. (refl, IfOk-at_ok (AreWithin sizes) are (two_words-within sizes fields)))
-own_line-fits sizes listed keyword.Mul fields = bind-all (Fits wants.Command sizes listed) (two_words sizes fields) _ (λ words are. (refl, IfOk-at_ok (AreWithin sizes) are (two_words-within sizes fields)))
+own_line-fits sizes listed keyword.Same fields = bind-all (Fits wants.Command sizes listed) (two_words sizes fields) _ (λ words are. let within = IfOk-at_ok (AreWithin sizes) are (two_words-within sizes fields) in (refl, within.0, within.1))
+own_line-fits sizes listed keyword.Mul fields = bind-all (Fits wants.Command sizes listed) (two_words sizes fields) _ (λ words are. let within = IfOk-at_ok (AreWithin sizes) are (two_words-within sizes fields) in (refl, within.0, within.1))
 own_line-fits sizes listed keyword.Inv fields = bind-all (Fits wants.Command sizes listed) (word_line sizes fields) _ (λ w is. (refl, word_line-within sizes fields w is))
 own_line-fits sizes listed keyword.Roots fields = unless-all (Fits wants.Command sizes listed) (nat_eq (length fields) 0) _ _ (λ counted. refl)
 own_line-fits sizes listed keyword.Constant fields = constant_line-fits sizes listed fields

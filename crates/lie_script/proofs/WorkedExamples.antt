@@ -3,7 +3,7 @@ use Rattle.std.specs.Prelude.{◌≡◌, refl, ℕ, true, false, pos, negsuc, Li
 use Rattle.lie_letters.specs.declared.letter.Letter.TheVariants.{X, H, N, Ninv}
 use Rattle.lie_script.specs.Fields.{fields_of}
 use Rattle.lie_script.specs.Numbers.{number_of, integer, number, numbers, natural}
-use Rattle.lie_script.specs.Letters.{spelled, unit, spelled_list, units, torus_letter, letter, few_letters, root_letter, weyl_letter, letters, word}
+use Rattle.lie_script.specs.Letters.{spelled, unit, spelled_list, units, torus_letter, letter, few_letters, root_letter, weyl_letter, letters, word, two_words}
 use Rattle.lie_script.specs.Kinds.{field_of, field_line, vector, root_line, coroot_line, bare_line, word_line, weyl_line}
 use Rattle.lie_script.specs.Modules.{new_name, kind_line, module_line, matrix_line}
 use Rattle.lie_script.specs.Reading.{keyword_of, own_line, spoken, reads}
