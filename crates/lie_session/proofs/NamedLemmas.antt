@@ -4,37 +4,54 @@ use Rattle.std.proofs.lemmas.List.{map-append}
 use Rattle.std.specs.Prelude.{bytes_eq}
 use Rattle.std.specs.List.{AllByRecursion, IsDistinct}
 use Rattle.std.specs.Map.{lookup, keys_of}
+use Rattle.std.specs.Option.{option_map}
 use Rattle.std.specs.Global.{Vec}
 use Rattle.std.proofs.lemmas.Cmp.{nat_list_eq_equiv}
 use Rattle.indexmap.specs.IndexMap.{IndexMap, insert_entry}
 use Rattle.indexmap.proofs.CallerLemmas.{insert_entry-new}
 use Rattle.lie_const.specs.Modules.{Module}
+use Rattle.lie_identities.specs.Audited.{AuditedModule}
 use Rattle.lie_session.specs.Named.{Named, module_of, named_of, HasDistinctNames}
 
 -- the test of two keys
 abbrev pub same_key : Vec ℕ → Vec ℕ → Bool
 same_key key other = bytes_eq key.items other.items
 
+-- a test comes before an image
+mapped_test : {A B : Type 0} (f : A → B) (test : Bool) (a : A) (o : Option A) → cond test (Some (f a)) (option_map f o) ≡ option_map f (cond test (Some a) o)
+mapped_test f true a o = refl
+mapped_test f false a o = refl
+
+-- no value has no image
+pub none_mapped : {A B : Type 0} (g : A → B) (o : Option A) → option_map g o ≡ None → o ≡ None
+none_mapped g None h = refl
+none_mapped g (Some a) h = absurd cc
+
+-- the module alone
+abbrev pub module_in : AuditedModule → Module
+module_in a = a.module
+
 -- a name has the module that the table has at its bytes
-pub named_module : (es : List (Vec ℕ × Module)) (name : List ℕ) → module_of (named_of es) name ≡ lookup (λ key. bytes_eq name key.items) es
+pub named_module : (es : List (Vec ℕ × AuditedModule)) (name : List ℕ) → module_of (named_of es) name ≡ option_map module_in (lookup (λ key. bytes_eq name key.items) es)
 named_module [] name = refl
 named_module (e ∷ es) name =
-    ap (λ same. cond same (Some e.1) (module_of (named_of es) name)) (nat_list_eq_equiv.symm e.0.items name)
-    ∙ ap (cond (bytes_eq name e.0.items) (Some e.1)) (named_module es name)
+    ap (λ same. cond same (Some (module_in e.1)) (module_of (named_of es) name)) (nat_list_eq_equiv.symm e.0.items name)
+    ∙ ap (cond (bytes_eq name e.0.items) (Some (module_in e.1))) (named_module es name)
+    ∙ mapped_test module_in (bytes_eq name e.0.items) e.1 (lookup (λ key. bytes_eq name key.items) es)
 
 -- a new name stands behind the others
-pub named_last : {S : Type 0} (table : IndexMap (Vec ℕ) Module S) (key : Vec ℕ) (v : Module) → module_of (named_of table.entries) key.items ≡ None
-    → named_of (insert_entry same_key table.entries key v) ≡ named_of table.entries ++ (key.items, v) ∷ []
+pub named_last : {S : Type 0} (table : IndexMap (Vec ℕ) AuditedModule S) (key : Vec ℕ) (v : AuditedModule) → module_of (named_of table.entries) key.items ≡ None
+    → named_of (insert_entry same_key table.entries key v) ≡ named_of table.entries ++ (key.items, module_in v) ∷ []
 named_last table key v new =
-    ap named_of (insert_entry-new same_key table key v (sym (named_module table.entries key.items) ∙ new))
-    ∙ map-append (λ e. (e.0.items, e.1)) table.entries ((key, v) ∷ [])
+    ap named_of (insert_entry-new same_key table key v (none_mapped module_in (lookup (λ k. bytes_eq key.items k.items) table.entries) (sym (named_module table.entries key.items) ∙ new)))
+    ∙ map-append (λ e. (e.0.items, module_in e.1)) table.entries ((key, v) ∷ [])
 
 -- the names of keys that differ differ
-pub distinct_named : (es : List (Vec ℕ × Module)) → IsDistinct same_key (keys_of es) → HasDistinctNames (named_of es)
+pub distinct_named : (es : List (Vec ℕ × AuditedModule)) → IsDistinct same_key (keys_of es) → HasDistinctNames (named_of es)
 unfolding IsDistinct
 distinct_named [] distinct = tt
 distinct_named (e ∷ es) distinct = (apart es distinct.0, distinct_named es distinct.1) where
-  apart : (fs : List (Vec ℕ × Module)) → AllByRecursion (λ key. same_key e.0 key ≡ false) (keys_of fs)
+  apart : (fs : List (Vec ℕ × AuditedModule)) → AllByRecursion (λ key. same_key e.0 key ≡ false) (keys_of fs)
       → AllByRecursion (λ other. bytes_eq e.0.items other ≡ false) (keys_of (named_of fs))
   apart [] h = tt
   apart (f ∷ fs) h = (h.0, apart fs h.1)

@@ -38,6 +38,7 @@ use Rattle.lie_session.specs.Ready.{Commands, Ready}
 use Rattle.lie_session.specs.State.{field_of, datum_of, modules_of, is_loaded, wants_of, sizes_of}
 use Rattle.lie_session.specs.declared.stage.Stage.{Stage}
 use Rattle.lie_session.specs.declared.stage.Stage.TheVariants as stage
+use Rattle.lie_session.proofs.NamedLemmas.{none_mapped}
 
 -- ---- what a reader is told
 
@@ -86,11 +87,6 @@ padded_within w h =
     All-append (λ c. unsigned_abs c ≤ 100) w (replicate (8 - length w) (pos 0))
     (λ i d l. within_small (get_or w i d) (h i d l))
     (All-replicate (λ c. unsigned_abs c ≤ 100) (8 - length w) (pos 0) (omega arith))
-
--- no value has no image
-none_mapped : {A B : Type 0} (g : A → B) (o : Option A) → option_map g o ≡ None → o ≡ None
-none_mapped g None h = refl
-none_mapped g (Some a) h = absurd cc
 
 -- a name that is not listed has no module
 pub free_from : (modules : Named) (name : List ℕ) → dimension_of (listed_of modules) name ≡ None → module_of modules name ≡ None

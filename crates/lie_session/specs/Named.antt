@@ -11,6 +11,7 @@ use base.Stored.{coded_via}
 use mathlib.Core.HLevel.{Σ_prop_path}
 use Rattle.lie_const.specs.Modules.{Module, dimension}
 use Rattle.lie_datum.specs.Vectors.{Vector}
+use Rattle.lie_identities.specs.Audited.{AuditedModule}
 use Rattle.lie_ring.specs.Matrices.{Matrix}
 use Rattle.lie_script.specs.Names.{Listed}
 
@@ -18,9 +19,9 @@ use Rattle.lie_script.specs.Names.{Listed}
 abbrev pub Named : Type 0
 Named = List (List ℕ × Module)
 
--- the names with the modules that a table has, entry by entry
-abbrev pub named_of : List (Vec ℕ × Module) → Named
-named_of entries = map (λ e. (e.0.items, e.1)) entries
+-- the names with the modules that a table of audited modules has, entry by entry
+abbrev pub named_of : List (Vec ℕ × AuditedModule) → Named
+named_of entries = map (λ e. (e.0.items, e.1.module)) entries
 
 -- the module of this name
 abbrev pub module_of : Named → List ℕ → Option Module

@@ -20,6 +20,6 @@ returns-clause-pushed c =
     let new : module_of (named_of table.entries) key.items ≡ None =
     ap (λ (m : NamedModules). module_of m.entries key.items) c.self.view_is ∙ ap (module_of before) c.in_ok-name.ensures.items ∙ c.requires in
     ap named_of c.in_ok-insert.ensures.entries
-    ∙ named_last table key c.args.module new
-    ∙ ap (λ (m : NamedModules). m.entries ++ (key.items, c.args.module) ∷ []) c.self.view_is
-    ∙ ap (λ name. before ++ (name, c.args.module) ∷ []) c.in_ok-name.ensures.items
+    ∙ named_last table key c.args.audited new
+    ∙ ap (λ (m : NamedModules). m.entries ++ (key.items, c.args.audited.module) ∷ []) c.self.view_is
+    ∙ ap (λ name. before ++ (name, c.args.audited.module) ∷ []) c.in_ok-name.ensures.items
