@@ -74,6 +74,7 @@ module _ (d : RootDatum) (loaded : IsLoaded d) where
         one_braid.good d (sign_entry d v) i j e
         (braids_same d loaded (simples_first_holds d loaded) (eta_of t) (sign_entry d v) (tested_agree d v t tested) signs.braids)
         (bad_braid v h.0 i j e adjoint h.1 h.3)
+    no_fault _ named h = h
 
   -- ---- a datum has one first fault
   one_fault : (why other : LoadFault) → why ≢ NoMemory → other ≢ NoMemory → IsFrameFault d why → IsFrameFault d other → why ≡ other
@@ -107,6 +108,11 @@ module _ (d : RootDatum) (loaded : IsLoaded d) where
   one_fault (Braid i j c) (Braid k l e) p q h g =
       let same = one_braid.first d (sign_entry d h.0) i j k l c e h.3 (bad_braid h.0 g.0 k l e h.1 g.1 g.3) in
       ap (λ x. Braid x j c) same.0 ∙ ap (λ x. Braid k x c) same.1 ∙ ap (λ x. Braid k l x) same.2
+  one_fault (Constant r s a e) _ p q h g = absurd g
+  one_fault (Fraction r s i j) _ p q h g = absurd g
+  one_fault (Sign i s c) _ p q h g = absurd g
+  one_fault (Braid i j c) _ p q h g = absurd g
+  one_fault _ _ p q h g = absurd h
 
   -- ---- frames
   module _ (f : FiniteField) where

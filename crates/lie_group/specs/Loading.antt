@@ -38,13 +38,15 @@ pub record HasAdjoint (d : RootDatum) (v : Module) : Type 0 where
   pub constants : LoadsConstants d (Ok table)
   pub adjoint : IsAdjointOf d v
 
--- the cause of each fault: the demands before it are met, and it is the first place where its own fails; want of memory has none
+-- the cause of each fault: the demands before it are met, and it is the first place where its own fails. Want of memory has none, and
+-- the faults of a carrier do not come
 abbrev pub IsFrameFault : RootDatum → LoadFault → Type 0
 IsFrameFault d NoMemory = ⊤
 IsFrameFault d (Constant r s a e) = LoadsConstants d (Err (const_fault.Constant r s a e))
 IsFrameFault d (Fraction r s i j) = LoadsConstants d (Err (const_fault.Fraction r s i j))
 IsFrameFault d (Sign i s c) = (v : Module) × HasAdjoint d v × IsFirstBadSign d v i s c
 IsFrameFault d (Braid i j c) = (v : Module) × HasAdjoint d v × AreSigns d v (sign_entry d v) × IsFirstBadBraid d (sign_entry d v) i j c
+IsFrameFault d _ = ⊥
 
 -- what `make_frame` answers for a field and a datum: their frame, or the first demand that the datum doesn't meet
 abbrev pub MakesFrame : FiniteField → RootDatum → Result SignedFrame LoadFault → Type 0
