@@ -177,5 +177,5 @@ one_group f d g h x y p q loads other n m =
     let loaded : IsLoaded d = subst IsLoaded p.datum p.lawful.lawful.loaded in
     let same : IsSameFrame g h = one_frame f d (Ok g) (Ok h) loaded p q (λ e. absurd cc) (λ e. absurd cc) in
     let is : framed g.field g.datum g.signs h.constants ≡ h =
-        ap (λ z. framed z g.datum g.signs h.constants) same.field ∙ ap (λ z. framed h.field z g.signs h.constants) same.datum ∙ ap (λ z. framed h.field h.datum z h.constants) same.signs in
+    ap (λ z. framed z g.datum g.signs h.constants) same.field ∙ ap (λ z. framed h.field z g.signs h.constants) same.datum ∙ ap (λ z. framed h.field h.datum z h.constants) same.signs in
     one_answer_for g.field g.datum g.signs p.lawful.lawful.loaded g.constants h.constants same.constants x y loads (subst (λ (k : SignedFrame). LoadsGroup k y) (sym is) other) n m

@@ -78,6 +78,9 @@ module _ (d : RootDatum) (c e : ConstantTable) (same : IsSameTable d c e) (eta :
   fault_same (Graded r k row col) h = h
   fault_same (Large q) h = (h.0, before_same q h.1, large_same q (relation_at q h.1) h.2)
   fault_same (Relation q row col et eu left right) h =
-      let at = relation_at q h.1 in
-      (h.0, before_same q h.1, (λ l. h.2 (large_back q at l)),
-      subst (λ fs. IsFirstDifferentEntry (left_matrix d v q) (side_matrix laurent_variables d v fs) row col et eu left right) (right_same q at) h.3)
+      let at = relation_at q h.1 in (
+        h.0,
+        before_same q h.1,
+        (λ l. h.2 (large_back q at l)),
+        subst (λ fs. IsFirstDifferentEntry (left_matrix d v q) (side_matrix laurent_variables d v fs) row col et eu left right) (right_same q at) h.3,
+      )

@@ -1,5 +1,5 @@
 -- The torus of rank 1 over the field of two elements: it loads, by computation, and no other answer comes. Its carrier has one weight.
-use Rattle.std.proofs.Common.{◌≡◌, ◌≢◌, ℕ, zero, suc, ◌+◌, ◌<◌, ◌≤◌, List, [], ◌∷◌, ◌++◌, length, Ok, Err, ℤ, pos, refl, sym, subst, arith, get_or, inl, inr, ⊎_elim}
+use Rattle.std.proofs.Common.{◌≡◌, ◌≢◌, ℕ, zero, suc, ◌+◌, ◌-◌, ◌<◌, ◌≤◌, List, [], ◌∷◌, ◌++◌, length, Ok, Err, ℤ, pos, refl, sym, subst, arith, get_or, inl, inr, ⊎_elim}
 use Rattle.std.specs.Prelude.{unsigned_abs}
 use Rattle.std.specs.List.{All, Contains}
 use Rattle.std.specs.List.Sorted.{IsStrictlySortedBy}
@@ -24,7 +24,7 @@ use Rattle.lie_letters.proofs.FrameExamples.{pair, two}
 use Rattle.lie_weight.specs.OrbitModules.{IsOrbitModule}
 use Rattle.lie_weight.specs.OrbitFaults.{IsHeavyAt}
 use Rattle.lie_weight.specs.Sums.{IsSum}
-use Rattle.lie_weight.specs.Carriers.{AreOrbitsOf, no_axis, taken, IsPassedOver, IsCarrier}
+use Rattle.lie_weight.specs.Carriers.{AreOrbitsOf, no_axis, taken, IsPassedOver, IsModuleOfOrbit, IsCarrier}
 use Rattle.lie_identities.specs.AuditRelations.{relations}
 use Rattle.lie_identities.specs.Audit.{HasLightWeights, IsMet, MeetsIdentities}
 use Rattle.lie_identities.specs.Audited.{AuditedModule, IsAudited}
@@ -133,25 +133,29 @@ line_is_carrier : IsCarrier t1 eta nothing line
 line_is_carrier = record {
   modules = line ∷ [];
   orbits = orbits;
-  of_orbits = All-from_recursion _ (line ∷ []) ((e1, line_of_orbit), tt);
+  of_orbits = All-from_recursion (IsModuleOfOrbit t1 eta) (line ∷ []) ((e1, line_of_orbit), tt);
   sum = (line, (nothing, record { shape = nothing_shape; weights = refl }, line_sum), whole_sum);
 }
 
--- its coordinates are small
+-- its coordinates are small, so that it is not heavy
+pub not_heavy : (ws : List Vector) → All (IsWithin 1000000) ws → (a : ℕ) → ¬ IsHeavyAt ws a
+not_heavy ws light a h =
+    let first = h.0 in
+    let last = h.1 in
+    let x = h.2 in
+    let within = light (a - 1) [] (omega (arith, first, last)) in
+    let small = subst (λ c. unsigned_abs c ≤ 1000000) x.3 (within x.0 x.1 x.2) in
+    let large = x.4 in
+    omega (arith, small, large)
+
 e1_light : IsWithin 1000000 e1
 e1_light = All-from_recursion (λ c. unsigned_abs c ≤ 1000000) e1 (omega arith, (omega arith, (omega arith, (omega arith, (omega arith, (omega arith, (omega arith, (omega arith, tt))))))))
 
-not_heavy : (a : ℕ) → ¬ IsHeavyAt line.weights a
-not_heavy zero h = let l = h.0 in omega (arith, l)
-not_heavy (suc zero) h =
-    let a = h.2 in
-    let small = subst (λ c. unsigned_abs c ≤ 1000000) a.3 (e1_light a.0 a.1 a.2) in
-    let large = a.4 in
-    omega (arith, small, large)
-not_heavy (suc (suc a)) h = let l = h.1 in omega (arith, l)
+e1_alone_light : All (IsWithin 1000000) (e1 ∷ [])
+e1_alone_light = All-cons (IsWithin 1000000) e1 [] e1_light (All-nil (IsWithin 1000000))
 
 line_carrier : IsCarrierOf t1_frame line
-line_carrier = (nothing, nothing_is_adjoint, (line_is_carrier, omega arith, not_heavy, (λ r k h. no_index h.huge.first.huge.index h.huge.first.huge.lowering.index)))
+line_carrier = (nothing, nothing_is_adjoint, (line_is_carrier, omega arith, not_heavy line.weights e1_alone_light, (λ r k h. no_index h.huge.first.huge.index h.huge.first.huge.lowering.index)))
 
 -- ---- the group
 abbrev t1_group : GroupData
@@ -168,7 +172,7 @@ t1_loads = (
     frame = t1_made;
     carrier = record {
       is_carrier = line_carrier;
-      audited = record { shape = line_shape; light = All-cons (IsWithin 1000000) e1 [] e1_light (All-nil (IsWithin 1000000)); meets = t1_meets };
+      audited = record { shape = line_shape; light = e1_alone_light; meets = t1_meets };
       audited_for = record { datum = refl; constants = refl; signs = refl };
     };
     covering = record {

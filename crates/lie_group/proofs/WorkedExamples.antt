@@ -22,15 +22,15 @@ a1_powers =
     ∷ (sparse 3 ((1, 0, negsuc 0) ∷ (2, 1, pos 2) ∷ [])
     ∷ sparse 3 ((2, 0, negsuc 0) ∷ []) ∷ []) ∷ []
 
-abbrev a1_adjoint : Module
+abbrev pub a1_adjoint : Module
 a1_adjoint = record { positive = 1; weights = pair (pos 2) (pos 0) ∷ pair (pos 0) (pos 0) ∷ pair (negsuc 1) (pos 0) ∷ []; powers = a1_powers }
 
 -- the frame with a sign at a_1 and one at its opposite
-abbrev a1_frame : ℤ → ℤ → SignedFrame
+abbrev pub a1_frame : ℤ → ℤ → SignedFrame
 a1_frame c e = record { field = two; datum = a1; constants = a1_table; signs = record { rank = 1; positive = 1; signs = c ∷ e ∷ [] } }
 
 -- both signs are -1
-a1_made : MakesFrame two a1 (Ok (a1_frame (negsuc 0) (negsuc 0)))
+pub a1_made : MakesFrame two a1 (Ok (a1_frame (negsuc 0) (negsuc 0)))
 unfolding weyl_element root_element
 a1_made = record {
   field = refl;

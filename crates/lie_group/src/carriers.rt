@@ -44,13 +44,7 @@ pub(crate) fn audited_carrier(alloc: Global, frame: &Frame) -> Result<Audited, L
     frame.lawful();
     carrier_is_light();
     let carrier = carrier(alloc, frame)?;
-    let audited = audit(
-        alloc,
-        &frame.datum,
-        &frame.constants,
-        &frame.signs,
-        carrier,
-    )?;
+    let audited = audit(alloc, &frame.datum, &frame.constants, &frame.signs, carrier)?;
     audited.module();
     Ok(audited)
 }
