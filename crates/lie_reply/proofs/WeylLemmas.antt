@@ -35,7 +35,7 @@ letters_from D indices letters within is =
     subst (AreLetters D.base) (sym is) (All-map (IsSimpleIndex D.base) nat_abs indices (λ k d lt. index_letter (get_or indices k d) (rank D.base) (within k d lt)))
 
 -- neither word is above the other
-two_least : (w v : List ℕ) → slice_cmp nat_cmp w v ≢ Greater → slice_cmp nat_cmp v w ≢ Greater → w ≡ v
+pub two_least : (w v : List ℕ) → slice_cmp nat_cmp w v ≢ Greater → slice_cmp nat_cmp v w ≢ Greater → w ≡ v
 two_least w v p q = by (slice_cmp nat_cmp w v) refl
   where
     by : (o : Ordering) → slice_cmp nat_cmp w v ≡ o → w ≡ v
