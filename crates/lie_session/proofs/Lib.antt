@@ -6,6 +6,7 @@ mod NamedLemmas
 pub mod ChangeLemmas
 pub mod StatusLemmas
 pub mod LoadedLemmas
+pub mod GroupLemmas
 pub mod OneWordLemmas
 pub mod PrintedLemmas
 pub mod OneOutcome

@@ -98,7 +98,7 @@ group_reached : (f : SignedFrame) (x : Result GroupData LoadFault) → IsWithinL
 group_reached f (Ok g) sized h = record {
   sized = subst (λ (k : SignedFrame). IsWithinLimit k.field.given) (sym h.0) sized;
   frame = h.1.frame;
-  carrier = h.1.carrier;
+  carrier = h.1.carrier.is_carrier;
   audited = carrier_meets g h.1;
   covering = h.1.covering;
   built = tt;

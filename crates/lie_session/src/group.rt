@@ -142,6 +142,18 @@ fn inverted(alloc: Global, frame: &Frame, w: &Word) -> Result<Text, AllocError>
     form_text(alloc, frame, &inverse)
 }
 
+/// The answer whether two words are joined.
+fn same(alloc: Global, group: &Group, w: &Word, v: &Word) -> Result<Text, AllocError>
+    requires left { IsLoaded group.now.frame.datum → IsWordFor group.now.frame.field group.now.frame.datum w.now }
+    requires right { IsLoaded group.now.frame.datum → IsWordFor group.now.frame.field group.now.frame.datum v.now }
+    ensures { IfOk result (TellsSame group.now.frame w.now v.now) }
+{
+    group.lawful();
+    let w = group.form(alloc, w)?;
+    let v = group.form(alloc, v)?;
+    same_text(alloc, w.same(&v))
+}
+
 /// A group with its named modules.
 #[derive(Drop)]
 pub(crate) struct LoadedGroup {
@@ -196,20 +208,6 @@ impl LoadedGroup {
     {
         let frame = self.frame();
         constant_text(alloc, &frame.datum, &frame.constants, r, s)
-    }
-
-    /// The answer whether two words are joined.
-    fn same(&self, alloc: Global, w: &Word, v: &Word) -> Result<Text, AllocError>
-        requires left { IsLoaded self.now.frame.datum → IsWordFor self.now.frame.field self.now.frame.datum w.now }
-        requires right { IsLoaded self.now.frame.datum → IsWordFor self.now.frame.field self.now.frame.datum v.now }
-        ensures { IfOk result (λ text. TellsSame self.now.frame w.now v.now text) }
-    {
-        self.group.lawful();
-        let frame = self.frame();
-        frame.lawful();
-        let w = form(alloc, frame, w)?;
-        let v = form(alloc, frame, v)?;
-        same_text(alloc, w.same(&v))
     }
 
     /// The rows of the matrix of a word on the module of a name; none where no module has the name.
@@ -281,7 +279,7 @@ impl LoadedGroup {
     {
         match line {
             Line::Form(w) => Ok(Some(printed(alloc, self.frame(), &w)?)),
-            Line::Same { w, v } => Ok(Some(self.same(alloc, &w, &v)?)),
+            Line::Same { w, v } => Ok(Some(same(alloc, &self.group, &w, &v)?)),
             Line::Mul { w, v } => Ok(Some(multiplied(alloc, self.frame(), &w, &v)?)),
             Line::Inv(w) => Ok(Some(inverted(alloc, self.frame(), &w)?)),
             Line::Roots => Ok(Some(roots_text(alloc, &self.frame().datum)?)),

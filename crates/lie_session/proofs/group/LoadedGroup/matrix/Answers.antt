@@ -11,13 +11,14 @@ use Rattle.lie_session.proofs.group.LoadedGroup.matrix.Goals as goal
 
 pub word_matrix-requires-clause-space : goal.word_matrix-requires-clause-space
 word_matrix-requires-clause-space c =
-    let v = c.in-Some.module.now in
+    let v = c.in-Some.space.now in
     let modules = c.self.inside.modules.entries in
     let is : module_of modules c.args.name.now ≡ Some v = sym c.find.ensures ∙ ap option_copied c.in-Some.is in
-    subst (λ (f : SignedFrame). IsModule f.datum v) (sym c.frame.view_is) (module_held c.self.inside.frame modules c.args.name.now v c.self.invariant is)
+    let held : IsModule c.args.self.now.frame.datum v =
+    subst (λ (g : LoadedGroup). IsModule g.frame.datum v) c.self.view_is (module_held c.self.inside.group.frame modules c.args.name.now v c.self.invariant is) in
+    subst (λ (f : SignedFrame). IsModule f.datum v) (sym (c.frame.view_is ∙ c.frame-frame.ensures)) held
 
 pub word_matrix-requires-clause-word : goal.word_matrix-requires-clause-word
 word_matrix-requires-clause-word c =
     let w = c.args.w.now in
-    let same = c.frame.view_is ∙ ap (λ (g : LoadedGroup). g.frame) c.self.view_is in
-    subst (λ (f : SignedFrame). IsLoaded f.datum → IsWordFor f.field f.datum w) (sym same) c.requires c.loaded.ensures
+    subst (λ (f : SignedFrame). IsLoaded f.datum → IsWordFor f.field f.datum w) (sym (c.frame.view_is ∙ c.frame-frame.ensures)) c.requires c.loaded.ensures
