@@ -1,5 +1,5 @@
 -- SL_2 over the field of two elements: it loads, by computation. Its carrier is the sum of the adjoint module and the natural one.
-use Rattle.std.proofs.Common.{◌≡◌, ◌≢◌, ℕ, zero, suc, ◌<◌, ◌≤◌, List, [], ◌∷◌, ◌++◌, length, true, false, Bool, Ok, Err, ℤ, pos, negsuc, neg_ℤ, refl, sym, ap, ◌∙◌, subst, arith, ⊎_elim}
+use Rattle.std.proofs.Common.{◌≡◌, ◌≢◌, ℕ, zero, suc, ◌<◌, ◌≤◌, List, [], ◌∷◌, true, false, Ok, Err, ℤ, pos, negsuc, neg_ℤ, refl, sym, ap, ◌∙◌, subst, arith, ⊎_elim}
 use Rattle.std.specs.Prelude.{unsigned_abs, ◌≤ℤ◌}
 use Rattle.std.specs.List.{All, Contains}
 use Rattle.std.specs.List.Sorted.{IsStrictlySortedBy}
@@ -11,7 +11,7 @@ use Rattle.lie_field.specs.Polynomials.{residues}
 use Rattle.lie_field.specs.Quotient.{degree, order, leading, shift, element, of_int}
 use Rattle.lie_datum.specs.Vectors.{Vector}
 use Rattle.lie_datum.specs.RootDatum.{IsSimpleIndex, IsWithin}
-use Rattle.lie_datum.specs.RootList.{RootDatum, IsNumber}
+use Rattle.lie_datum.specs.RootList.{IsNumber}
 use Rattle.lie_datum.proofs.NumberLemmas.{place_within}
 use Rattle.lie_const.specs.ConstantTables.{value_of}
 use Rattle.lie_const.specs.Modules.{Module, IsModule, dimension, top, divided_power, root_element}
