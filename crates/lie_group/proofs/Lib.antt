@@ -5,3 +5,4 @@ pub mod SameAudits
 pub mod OneGroup
 mod WorkedExamples
 mod TorusExample
+mod RankOneExample

@@ -1,11 +1,10 @@
 -- The frames of a field and a datum have one group, or one first fault.
-use Rattle.std.proofs.Common.{◌≡◌, ◌≢◌, ℕ, ◌+◌, ◌<◌, ◌≤◌, ◌⊎◌, inl, inr, ℤ, pos, Result, Ok, Err, refl, sym, ap, ◌∙◌, subst, arith, ⊎_elim}
+use Rattle.std.proofs.Common.{◌≡◌, ◌≢◌, inl, inr, ℤ, pos, Result, Ok, Err, refl, sym, ap, ◌∙◌, subst, arith}
 use Rattle.std.proofs.lemmas.Bool.{cases_lt}
 use Rattle.lie_field.specs.FiniteField.{FiniteField}
 use Rattle.lie_datum.specs.RootList.{RootDatum, IsLoaded}
 use Rattle.lie_const.specs.ConstantTables.{ConstantTable, IsSameTable}
 use Rattle.lie_const.specs.Modules.{Module}
-use Rattle.lie_const.specs.Adjoint.{IsAdjointOf}
 use Rattle.lie_const.specs.Signs.{SignTable, eta_of}
 use Rattle.lie_letters.specs.SignedFrames.{SignedFrame}
 use Rattle.lie_weight.specs.Carriers.{LoadsCarrier}
@@ -20,8 +19,8 @@ use Rattle.lie_identities.proofs.OneAnswer.{one_audit_answer}
 use Rattle.lie_audit.proofs.OneAdjointLemmas.{one_adjoint}
 use Rattle.lie_group.specs.declared.faults.LoadFault.{LoadFault}
 use Rattle.lie_group.specs.declared.faults.LoadFault.TheVariants.{NoMemory, CarrierWide, Heavy, Huge, Graded, Large, Relation, Dead}
-use Rattle.lie_group.specs.Loading.{IsFrameOf, IsSameFrame}
-use Rattle.lie_group.specs.Groups.{GroupData, HasCarrierAnswer, IsCarrierOf, IsGroup, HasAuditFault, IsGroupFault, LoadsGroup, IsSameGroup, IsSameGroupAnswer, LoadsOneGroup, MeetsFrame, audits_fault}
+use Rattle.lie_group.specs.Loading.{IsSameFrame}
+use Rattle.lie_group.specs.Groups.{GroupData, HasCarrierAnswer, IsCarrierOf, HasAuditFault, IsGroupFault, LoadsGroup, IsSameGroup, IsSameGroupAnswer, LoadsOneGroup, MeetsFrame, audits_fault}
 use Rattle.lie_group.proofs.GroupLemmas.{carrier_meets}
 use Rattle.lie_group.proofs.OneFrame.{one_frame}
 use Rattle.lie_group.proofs.SameAudits.{meets_same, fault_same}

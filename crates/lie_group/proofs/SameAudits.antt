@@ -1,8 +1,7 @@
 -- Constants that say the same of each two roots make the same relations, so that an audit has one answer for both.
-use Rattle.std.proofs.Common.{◌≡◌, ◌≢◌, ℕ, zero, suc, ◌+◌, ◌<◌, ◌⊎◌, ℤ, pos, neg_ℤ, List, [], ◌∷◌, ◌++◌, map, length, refl, sym, ap, subst, ◌∙◌, arith}
+use Rattle.std.proofs.Common.{◌≡◌, ◌⊎◌, List, [], ◌∷◌, ◌++◌, refl, sym, subst}
 use Rattle.std.specs.List.{All}
 use Rattle.std.proofs.lemmas.List.Elements.{All-nil, All-cons, All-head, All-tail}
-use Rattle.lie_ring.specs.Matrices.{Matrix}
 use Rattle.lie_datum.specs.RootList.{RootDatum}
 use Rattle.lie_mat.specs.Wide.{IsHugeMatrix}
 use Rattle.lie_const.specs.ConstantTables.{ConstantTable, IsSameTable}
@@ -14,7 +13,7 @@ use Rattle.lie_identities.specs.declared.relations.Rel.TheVariants.{S1, S2, S6, 
 use Rattle.lie_identities.specs.declared.faults.AuditFault.{AuditFault}
 use Rattle.lie_identities.specs.declared.faults.AuditFault.TheVariants.{NoMemory, Graded, Large, Relation}
 use Rattle.lie_identities.specs.AuditRelations.{relations, side_matrix, side_size}
-use Rattle.lie_identities.specs.Audit.{laurent_variables, left_factors, right_factors, left_matrix, right_matrix, IsLarge, IsMet, MeetsIdentities, AreMetBefore, IsFirstDifferentEntry, IsAuditFault}
+use Rattle.lie_identities.specs.Audit.{laurent_variables, left_factors, right_factors, left_matrix, IsLarge, IsMet, MeetsIdentities, AreMetBefore, IsFirstDifferentEntry, IsAuditFault}
 use Rattle.lie_identities.specs.Sides.{IsRelationOf}
 use Rattle.lie_identities.proofs.RelationMembers.{relations_all}
 

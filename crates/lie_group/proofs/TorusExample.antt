@@ -1,7 +1,7 @@
 -- The torus of rank 1 over the field of two elements: it loads, by computation, and no other answer comes. Its carrier has one weight.
-use Rattle.std.proofs.Common.{◌≡◌, ◌≢◌, ℕ, zero, suc, ◌+◌, ◌-◌, ◌<◌, ◌≤◌, List, [], ◌∷◌, ◌++◌, length, Ok, Err, ℤ, pos, refl, sym, subst, arith, get_or, inl, inr, ⊎_elim}
+use Rattle.std.proofs.Common.{◌≡◌, ◌≢◌, ℕ, zero, suc, ◌-◌, ◌<◌, ◌≤◌, List, [], ◌∷◌, Ok, Err, ℤ, pos, refl, sym, subst, arith, get_or, ⊎_elim}
 use Rattle.std.specs.Prelude.{unsigned_abs}
-use Rattle.std.specs.List.{All, Contains}
+use Rattle.std.specs.List.{All}
 use Rattle.std.specs.List.Sorted.{IsStrictlySortedBy}
 use Rattle.std.proofs.lemmas.Int.{ints}
 use Rattle.std.proofs.lemmas.List.Elements.{All-nil, All-cons, All-from_recursion}
@@ -26,12 +26,11 @@ use Rattle.lie_weight.specs.OrbitFaults.{IsHeavyAt}
 use Rattle.lie_weight.specs.Sums.{IsSum}
 use Rattle.lie_weight.specs.Carriers.{AreOrbitsOf, no_axis, taken, IsPassedOver, IsModuleOfOrbit, IsCarrier}
 use Rattle.lie_identities.specs.AuditRelations.{relations}
-use Rattle.lie_identities.specs.Audit.{HasLightWeights, IsMet, MeetsIdentities}
-use Rattle.lie_identities.specs.Audited.{AuditedModule, IsAudited}
+use Rattle.lie_identities.specs.Audit.{IsMet, MeetsIdentities}
 use Rattle.lie_identities.proofs.CoveredAxes.{cover_axes}
 use Rattle.lie_group.specs.declared.faults.LoadFault.{LoadFault}
 use Rattle.lie_group.specs.declared.faults.LoadFault.TheVariants.{NoMemory}
-use Rattle.lie_group.specs.Loading.{IsFrameOf, MakesFrame}
+use Rattle.lie_group.specs.Loading.{MakesFrame}
 use Rattle.lie_group.specs.Groups.{GroupData, IsCarrierOf, LoadsGroup}
 use Rattle.lie_group.proofs.OneGroup.{one_group}
 

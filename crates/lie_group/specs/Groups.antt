@@ -22,7 +22,7 @@ use Rattle.lie_identities.specs.Covers.{IsCovering, IsFirstDead}
 use Rattle.lie_identities.specs.declared.faults.AuditFault.{AuditFault}
 use Rattle.lie_identities.specs.declared.faults.AuditFault.TheVariants as audit_fault
 use Rattle.lie_group.specs.declared.faults.LoadFault.{LoadFault}
-use Rattle.lie_group.specs.declared.faults.LoadFault.TheVariants.{NoMemory, Constant, Fraction, Sign, Braid, CarrierWide, Heavy, Huge, Graded, Large, Relation, Dead}
+use Rattle.lie_group.specs.declared.faults.LoadFault.TheVariants.{NoMemory, CarrierWide, Heavy, Huge, Graded, Large, Relation, Dead}
 use Rattle.lie_group.specs.Loading.{IsFrameOf, IsSameFrame}
 
 -- a frame, and a module with what it is audited for
