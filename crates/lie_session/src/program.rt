@@ -7,7 +7,7 @@ ghost use Rattle.lie_session.specs.Printed.{FormsAreJoined, EqualRepliesDecideWo
 ghost use Rattle.lie_session.specs.Loaded.{GroupsAreLoaded, MatricesAreProducts, JoinedWordsHaveOneMatrix};
 ghost use Rattle.lie_session.specs.Runs.{mode_of, input_limit, Cause, CauseOf, ReadCounts, WriteCounts, Complete, Exceeds};
 ghost use Rattle.lie_session.specs.Steps.{stop_status, Answered, AnsweredAtEnd, Replied};
-ghost use Rattle.lie_session.specs.State.{ended_status};
+ghost use Rattle.lie_session.specs.State.{fresh, ended_status};
 
 use crate::cutting::first_line;
 use crate::input::{ReadStop, read_all};
@@ -75,6 +75,39 @@ fn status(session: &Session) -> Status
     }
 }
 
+/// Replies to an input that was read to its end, in a session that has read nothing.
+fn reply_in<K: Sink>(
+    alloc: Global,
+    mode: Mode,
+    session: &mut Session,
+    input: &[u8],
+    sink: &mut K,
+) -> Status
+    requires fresh { session.old ≡ fresh }
+    requires within { length input.now ≤ input_limit }
+    ensures replied { Replied mode (K.written sink.old) input.now (K.written sink.new) result }
+    ensures counted { WriteCounts (K.faults sink.old) (K.faults sink.new) result }
+    ensures checked { mode ≡ Mode.Check → result ≢ Status.Refused }
+{
+    let mut rest = input;
+    let mut number: u64 = 0;
+    'lines: while !rest.is_empty() && !mode.rests(session) {
+        let (line, after) = first_line(rest);
+        number += 1;
+        if let Err(stop) = reply_to(alloc, session, number, line, sink) {
+            return stopped(stop);
+        }
+        rest = after;
+    }
+    if mode.rests(session) {
+        return status(session);
+    }
+    if let Err(stop) = reply_to_end(alloc, session, number, sink) {
+        return stopped(stop);
+    }
+    status(session)
+}
+
 /// Replies to an input that was read to its end.
 fn reply_all<K: Sink>(alloc: Global, mode: Mode, input: &[u8], sink: &mut K) -> Status
     requires { length input.now ≤ input_limit }
@@ -83,23 +116,7 @@ fn reply_all<K: Sink>(alloc: Global, mode: Mode, input: &[u8], sink: &mut K) -> 
     ensures checked { mode ≡ Mode.Check → result ≢ Status.Refused }
 {
     let mut session = Session::new(alloc);
-    let mut rest = input;
-    let mut number: u64 = 0;
-    'lines: while !rest.is_empty() && !mode.rests(&session) {
-        let (line, after) = first_line(rest);
-        number += 1;
-        if let Err(stop) = reply_to(alloc, &mut session, number, line, sink) {
-            return stopped(stop);
-        }
-        rest = after;
-    }
-    if mode.rests(&session) {
-        return status(&session);
-    }
-    if let Err(stop) = reply_to_end(alloc, &mut session, number, sink) {
-        return stopped(stop);
-    }
-    status(&session)
+    reply_in(alloc, mode, &mut session, input, sink)
 }
 
 /// Replies to the lines of the source as the mode says.

@@ -1,7 +1,7 @@
 use Rattle.std.proofs.Common.{◌≡◌, ◌≤◌, ◌+◌, length}
 use Rattle.lie_session.specs.declared.mode.Mode.TheVariants.{Check}
 use Rattle.lie_session.proofs.ProgressLemmas.{Progress}
-use Rattle.lie_session.proofs.program.reply_all.Given as goal
+use Rattle.lie_session.proofs.program.reply_in.Given as goal
 
 abbrev pub invariant-lines : goal.invariant-lines
 invariant-lines g l =

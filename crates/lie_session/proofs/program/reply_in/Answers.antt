@@ -6,11 +6,11 @@ use Rattle.lie_session.specs.declared.mode.Mode.{Mode}
 use Rattle.lie_session.proofs.ToldLemmas.{empty_from}
 use Rattle.lie_session.proofs.StatusLemmas.{uncounted, check_unloaded, not_refused}
 use Rattle.lie_session.proofs.ProgressLemmas.{progress_none, progress_more, stop_more, stop_end, output_ended, output_end, replied_status}
-use Rattle.lie_session.proofs.program.reply_all.Goals as goal
-use Rattle.lie_session.proofs.program.reply_all.Goals.{then-lines-test+else-not-rests, else-lines-test}
+use Rattle.lie_session.proofs.program.reply_in.Goals as goal
+use Rattle.lie_session.proofs.program.reply_in.Goals.{then-lines-test+else-not-rests, else-lines-test}
 
 pub lines-init : goal.lines-init
-lines-init g c = (rw c.new-session.ensures (progress_none c.args.mode c.args.input.now (g.K.Sink.written c.args.sink.now)), refl, omega arith, λ check. search rules)
+lines-init g c = (rw c.requires.fresh (progress_none c.args.mode c.args.input.now (g.K.Sink.written c.args.sink.now)), refl, omega arith, λ check. search rules)
 
 pub lines-preserved : goal.lines-preserved
 lines-preserved g c =
