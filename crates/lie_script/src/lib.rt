@@ -38,6 +38,3 @@ pub use names::{Names, NoNames};
 pub use reading::read_line;
 pub use sizes::{Sizes, Wants};
 pub use texts::{put_number, put_spaced, refusal};
-
-#[cfg(test)]
-mod tests;

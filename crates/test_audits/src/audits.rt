@@ -19,7 +19,6 @@ use std::alloc::Global;
 use test_rows::{Answer, Stop, constants, padded};
 
 /// The adjoint module.
-#[tactic(auto, using(crate::proofs::ModuleLemmas::adjoint_of))]
 fn made_adjoint(alloc: Global, datum: &Datum) -> Result<Module, Stop>
     ensures { IfOk result (IsAdjointOf datum.now) }
 {
@@ -28,7 +27,6 @@ fn made_adjoint(alloc: Global, datum: &Datum) -> Result<Module, Stop>
 }
 
 /// The adjoint module, and that it may be audited.
-#[tactic(auto, using(crate::proofs::ModuleLemmas::adjoint_module, crate::proofs::ModuleLemmas::adjoint_light))]
 fn adjoint(alloc: Global, datum: &Datum) -> Result<Module, Stop>
     ensures adjoint { IfOk result (IsAdjointOf datum.now) }
     ensures shape { IfOk result (IsModule datum.now) }
@@ -39,7 +37,6 @@ fn adjoint(alloc: Global, datum: &Datum) -> Result<Module, Stop>
 }
 
 /// The signs that are read off the adjoint module.
-#[tactic(auto, using(crate::proofs::ModuleLemmas::tested_table))]
 fn signs_of(alloc: Global, datum: &Datum, space: &Module) -> Result<Signs, SignFault>
     requires { IsAdjointOf datum.now space.now }
     ensures { IfOk result (IsSignTable datum.now) }
@@ -113,7 +110,6 @@ fn is_within(v: &Vector) -> bool
 }
 
 /// The module of an orbit.
-#[tactic(auto, using(crate::proofs::ModuleLemmas::orbit_module, crate::proofs::ModuleLemmas::orbit_light))]
 fn orbit(alloc: Global, datum: &Datum, signs: &Signs, v: &Vector) -> Result<Module, ModuleFault>
     requires signs { IsSignTable datum.now signs.now }
     requires v { IsWithin 100 v.now }
@@ -124,7 +120,6 @@ fn orbit(alloc: Global, datum: &Datum, signs: &Signs, v: &Vector) -> Result<Modu
 }
 
 /// The module of an orbit of a datum, as one of another datum with as many roots.
-#[tactic(auto, using(crate::proofs::ModuleLemmas::same_shape))]
 fn moved(
     alloc: Global,
     source: &Datum,
@@ -166,58 +161,68 @@ pub(crate) fn audit_orbit(
 /// Writes an answer: the dimension, or the fault.
 fn write(found: Result<Audited, AuditFault>, answer: &mut Answer) -> Result<(), Stop> {
     match found {
-        Ok(audited) => {
-            answer.word("audited, dimension")?;
-            answer.number(audited.module().dim() as i128)?;
-        }
-        Err(AuditFault::NoMemory) => return Err(Stop::NoMemory),
-        Err(AuditFault::Graded(r, k, row, col)) => {
+        Ok(audited) => write_dimension(&audited, answer),
+        Err(fault) => write_fault(&fault, answer),
+    }
+}
+
+/// Writes the dimension of a module that is audited.
+fn write_dimension(audited: &Audited, answer: &mut Answer) -> Result<(), Stop> {
+    answer.word("audited, dimension")?;
+    Ok(answer.number(audited.module().dim() as i128)?)
+}
+
+/// Writes a fault.
+fn write_fault(fault: &AuditFault, answer: &mut Answer) -> Result<(), Stop> {
+    match fault {
+        AuditFault::NoMemory => Err(Stop::NoMemory),
+        AuditFault::Graded(r, k, row, col) => {
             answer.word("not graded at")?;
-            answer.list(&[r.number() as i128, k as i128, row as i128, col as i128])?;
+            let places = [
+                i128::from(r.number()),
+                i128::from(*k),
+                *row as i128,
+                *col as i128,
+            ];
+            Ok(answer.list(&places)?)
         }
-        Err(AuditFault::Large(rel)) => {
+        AuditFault::Large(rel) => {
             answer.word("large")?;
-            write_rel(rel, answer)?;
+            write_rel(rel, answer)
         }
-        Err(
-            AuditFault::Relation {
-                rel,
-                row,
-                col,
-                et,
-                eu,
-                left,
-                right,
-            },
-        ) => {
+        AuditFault::Relation {
+            rel,
+            row,
+            col,
+            et,
+            eu,
+            left,
+            right,
+        } => {
             write_rel(rel, answer)?;
-            answer.next(&[row as i128, col as i128])?;
-            answer.next(&[et as i128, eu as i128])?;
-            answer.next(&[left, right])?;
+            answer.next(&[*row as i128, *col as i128])?;
+            answer.next(&[i128::from(*et), i128::from(*eu)])?;
+            Ok(answer.next(&[*left, *right])?)
         }
     }
-    Ok(())
 }
 
 /// Writes a relation.
-fn write_rel(rel: Rel, answer: &mut Answer) -> Result<(), Stop> {
+fn write_rel(rel: &Rel, answer: &mut Answer) -> Result<(), Stop> {
     match rel {
-        Rel::S1(r) => {
-            answer.word("S1")?;
-            answer.list(&[r.number() as i128])?;
-        }
-        Rel::S2(r, s) => {
-            answer.word("S2")?;
-            answer.list(&[r.number() as i128, s.number() as i128])?;
-        }
-        Rel::S6(i) => {
-            answer.word("S6")?;
-            answer.list(&[i as i128])?;
-        }
-        Rel::S7(i, s) => {
-            answer.word("S7")?;
-            answer.list(&[i as i128, s.number() as i128])?;
-        }
+        Rel::S1(r) => named(answer, "S1", &[i128::from(r.number())]),
+        Rel::S2(r, s) => named(
+            answer,
+            "S2",
+            &[i128::from(r.number()), i128::from(s.number())],
+        ),
+        Rel::S6(i) => named(answer, "S6", &[*i as i128]),
+        Rel::S7(i, s) => named(answer, "S7", &[*i as i128, i128::from(s.number())]),
     }
-    Ok(())
+}
+
+/// Writes the name of a relation, and what it is about.
+fn named(answer: &mut Answer, name: &str, list: &[i128]) -> Result<(), Stop> {
+    answer.word(name)?;
+    Ok(answer.list(list)?)
 }

@@ -1,6 +1,7 @@
 //! The question of a row, by its words.
 
 use crate::audits::{audit_adjoint, audit_orbit};
+use lie_datum::Datum;
 use std::alloc::{AllocError, Global};
 use test_rows::{Answer, Stop, read_lists, roots_of_row, row};
 
@@ -67,31 +68,86 @@ fn answered(alloc: Global, said: Said, line: &str) -> Result<String, Stop> {
 /// Audits the module of an orbit.
 fn about_orbit(alloc: Global, said: Said, text: &str, answer: &mut Answer) -> Result<(), Stop> {
     let source = roots_of_row(alloc, said.made_for)?;
-    let target = roots_of_row(alloc, said.datum)?;
+    made_for(alloc, &source.datum, said, text, answer)
+}
+
+/// Audits the module of an orbit of this datum.
+fn made_for(
+    alloc: Global,
+    source: &Datum,
+    said: Said,
+    text: &str,
+    answer: &mut Answer,
+) -> Result<(), Stop> {
     let made_with = signs_of(alloc, said.made_with)?;
-    let signs = signs_of(alloc, said.signs)?;
+    made_with_signs(alloc, source, &made_with, said, text, answer)
+}
+
+/// Audits the module of an orbit of this datum with these signs.
+fn made_with_signs(
+    alloc: Global,
+    source: &Datum,
+    made_with: &[i8],
+    said: Said,
+    text: &str,
+    answer: &mut Answer,
+) -> Result<(), Stop> {
     let lists = read_lists(alloc, text, "|")?;
-    let [v] = lists.as_slice() else {
-        return Err(Stop::NoQuestion);
-    };
-    audit_orbit(
+    match lists.as_slice() {
+        [v] => audited_for(alloc, source, made_with, v, said, answer),
+        _ => Err(Stop::NoQuestion),
+    }
+}
+
+/// Audits the module of the orbit of v for the datum of the last row `datum`.
+fn audited_for(
+    alloc: Global,
+    source: &Datum,
+    made_with: &[i8],
+    v: &[i128],
+    said: Said,
+    answer: &mut Answer,
+) -> Result<(), Stop> {
+    let target = roots_of_row(alloc, said.datum)?;
+    audited_with(
         alloc,
-        &source.datum,
-        &made_with,
-        &target.datum,
-        &signs,
+        source,
+        made_with,
         v,
+        &target.datum,
+        said.signs,
         answer,
     )
 }
 
+/// Audits the module of the orbit of v for this datum with the signs of a row.
+fn audited_with(
+    alloc: Global,
+    source: &Datum,
+    made_with: &[i8],
+    v: &[i128],
+    target: &Datum,
+    signs: &str,
+    answer: &mut Answer,
+) -> Result<(), Stop> {
+    let signs = signs_of(alloc, signs)?;
+    audit_orbit(alloc, source, made_with, target, &signs, v, answer)
+}
+
 /// The signs of a row: 1 and -1.
 fn signs_of(alloc: Global, text: &str) -> Result<Vec<i8>, Stop> {
+    let lists = read_lists(alloc, text, "|")?;
     let mut signs = Vec::new(alloc);
-    for list in &read_lists(alloc, text, "|")? {
-        for n in list {
-            signs.push(if *n < 0 { -1 } else { 1 })?;
-        }
+    for list in &lists {
+        add_signs(&mut signs, list)?;
     }
     Ok(signs)
+}
+
+/// Adds the signs of a list: -1 for a negative number, and 1 for another.
+fn add_signs(signs: &mut Vec<i8>, list: &[i128]) -> Result<(), Stop> {
+    for n in list {
+        signs.push(if *n < 0 { -1 } else { 1 })?;
+    }
+    Ok(())
 }

@@ -1,11 +1,12 @@
 -- What is known of modules and signs that were loaded.
-use Rattle.std.proofs.Common.{◌≡◌, length, Ok}
+use Rattle.std.proofs.Common.{◌≡◌, length, Ok, Err, Result, IfOk}
 use Rattle.lie_datum.specs.Vectors.{Vector}
 use Rattle.lie_datum.specs.RootList.{RootDatum}
 use Rattle.lie_const.specs.Adjoint.{IsAdjoint, IsAdjointOf}
 use Rattle.lie_const.specs.ConstantTables.{ConstantTable, value_of, LoadsConstants}
 use Rattle.lie_const.specs.Modules.{Module, IsModule}
 use Rattle.lie_const.specs.Signs.{Signs, SignTable, IsSignTable}
+use Rattle.lie_weight.specs.declared.faults.ModuleFault.{ModuleFault}
 use Rattle.lie_weight.specs.OrbitFaults.{LoadsOrbit}
 use Rattle.lie_weight.specs.Carriers.{LoadsCarrier}
 use Rattle.lie_audit.specs.SignAnswers.{AreTestedSigns}
@@ -23,12 +24,14 @@ pub positive_of : (d : RootDatum) (v : Module) → IsModule d v → v.positive �
 positive_of d v m = m.positive
 
 -- so has that of an orbit
-pub orbit_positive : (d : RootDatum) (eta : Signs) (w : Vector) (v : Module) → LoadsOrbit d eta w (Ok v) → v.positive ≡ length d.positive
-orbit_positive d eta w v loads = loads.1.steps.shape.positive
+pub orbit_positive : (d : RootDatum) (eta : Signs) (w : Vector) (r : Result Module ModuleFault) → LoadsOrbit d eta w r → IfOk r (λ v. v.positive ≡ length d.positive)
+orbit_positive d eta w (Ok v) loads = loads.1.steps.shape.positive
+orbit_positive d eta w (Err e) loads = tt
 
 -- so has the carrier
-pub carrier_positive : (d : RootDatum) (eta : Signs) (a v : Module) → LoadsCarrier d eta a (Ok v) → v.positive ≡ length d.positive
-carrier_positive d eta a v loads = loads.0.sum.2.shape.positive
+pub carrier_positive : (d : RootDatum) (eta : Signs) (a : Module) (r : Result Module ModuleFault) → LoadsCarrier d eta a r → IfOk r (λ v. v.positive ≡ length d.positive)
+carrier_positive d eta a (Ok v) loads = loads.0.sum.2.shape.positive
+carrier_positive d eta a (Err e) loads = tt
 
 -- signs that are read off are a table of signs
 pub tested_table : (d : RootDatum) (v : Module) (t : SignTable) → AreTestedSigns d v t → IsSignTable d t

@@ -1,6 +1,6 @@
 //! Rows on matrices of integers, which a row gives as their shape and their entries, row after row.
 
-ghost use Rattle.std.specs.Prelude.{IfOk, OnOk};
+ghost use Rattle.std.specs.Prelude.{◌≡◌, IsTrue, IfOk, OnOk};
 ghost use Rattle.lie_ring.specs.Integers.{integers};
 ghost use Rattle.lie_ring.specs.Matrices.{AllFit};
 ghost use Rattle.lie_ring.specs.Rings.{Fits};
@@ -10,6 +10,13 @@ use lie_ring::{Ints, Ring, RingStop};
 use std::alloc::Global;
 use test_rows::{Answer, Stop, index, pair, single};
 
+/// A matrix of elements of the ring of the integers.
+#[derive(Drop)]
+struct Fitting {
+    matrix: Mat<Ints>,
+    ghost fit: { AllFit integers matrix },
+}
+
 /// Answers a question about matrices; false where it is about something else.
 pub(crate) fn about_matrices(
     alloc: Global,
@@ -17,43 +24,104 @@ pub(crate) fn about_matrices(
     lists: &[Vec<i128>],
     answer: &mut Answer,
 ) -> Result<bool, Stop> {
-    match (question, lists) {
-        ("matrix product", [m, a, n, b]) => {
-            let (a, b) = (matrix(alloc, m, a)?, matrix(alloc, n, b)?);
-            product(alloc, &a, &b, answer)?;
+    match lists {
+        [m, a, n, b] => about_two(alloc, question, m, a, n, b, answer),
+        [m, a, list] => about_one_and_list(alloc, question, m, a, list, answer),
+        [m, a] if question == "transposed matrix" => {
+            transposed(alloc, &fitting_of(alloc, m, a)?, answer)?;
+            Ok(true)
         }
-        ("matrix sum", [m, a, n, b]) => {
-            let (a, b) = (matrix(alloc, m, a)?, matrix(alloc, n, b)?);
-            sum(alloc, &a, &b, answer)?;
-        }
-        ("direct sum", [m, a, n, b]) => {
-            let (a, b) = (matrix(alloc, m, a)?, matrix(alloc, n, b)?);
-            direct_sum(alloc, &a, &b, answer)?;
-        }
-        ("Kronecker product", [m, a, n, b]) => {
-            let (a, b) = (matrix(alloc, m, a)?, matrix(alloc, n, b)?);
-            kronecker(alloc, &a, &b, answer)?;
-        }
-        ("equal matrices", [m, a, n, b]) => {
-            let (a, b) = (matrix(alloc, m, a)?, matrix(alloc, n, b)?);
-            same(&a, &b, answer)?;
-        }
-        ("transposed matrix", [m, a]) => {
-            let a = matrix(alloc, m, a)?;
-            shown(a.transpose(alloc, &Ints), answer)?;
-        }
-        ("image of vector", [m, a, v]) => apply(alloc, &matrix(alloc, m, a)?, v, answer)?,
-        ("next entry", [m, a, start]) => next(&matrix(alloc, m, a)?, pair(start)?, answer)?,
-        ("identity matrix", [n]) => shown(Ok(identity(alloc, single(n)?)?), answer)?,
-        ("symmetric identity", [n]) => {
-            is_symmetric(alloc, &identity(alloc, single(n)?)?, answer)?
-        }
+        [n] => about_identity(alloc, question, n, answer),
+        _ => Ok(false),
+    }
+}
+
+/// Answers a question about two matrices.
+fn about_two(
+    alloc: Global,
+    question: &str,
+    m: &[i128],
+    a: &[i128],
+    n: &[i128],
+    b: &[i128],
+    answer: &mut Answer,
+) -> Result<bool, Stop> {
+    let a = fitting_of(alloc, m, a)?;
+    about_second(alloc, question, &a, n, b, answer)
+}
+
+/// Answers a question about this matrix and another.
+fn about_second(
+    alloc: Global,
+    question: &str,
+    a: &Fitting,
+    n: &[i128],
+    b: &[i128],
+    answer: &mut Answer,
+) -> Result<bool, Stop> {
+    let b = fitting_of(alloc, n, b)?;
+    about_both(alloc, question, a, &b, answer)
+}
+
+/// Answers a question about these two matrices.
+fn about_both(
+    alloc: Global,
+    question: &str,
+    a: &Fitting,
+    b: &Fitting,
+    answer: &mut Answer,
+) -> Result<bool, Stop> {
+    match question {
+        "matrix product" => product(alloc, a, b, answer)?,
+        "matrix sum" => sum(alloc, a, b, answer)?,
+        "direct sum" => direct_sum(alloc, a, b, answer)?,
+        "Kronecker product" => kronecker(alloc, a, b, answer)?,
+        "equal matrices" => same(a, b, answer)?,
+        _ => return Ok(false),
+    }
+    Ok(true)
+}
+
+/// Answers a question about a matrix and a list.
+fn about_one_and_list(
+    alloc: Global,
+    question: &str,
+    m: &[i128],
+    a: &[i128],
+    list: &[i128],
+    answer: &mut Answer,
+) -> Result<bool, Stop> {
+    let a = fitting_of(alloc, m, a)?;
+    match question {
+        "image of vector" => apply(alloc, &a, list, answer)?,
+        "next entry" => next(&a, pair(list)?, answer)?,
+        _ => return Ok(false),
+    }
+    Ok(true)
+}
+
+/// Answers a question about an identity matrix.
+fn about_identity(
+    alloc: Global,
+    question: &str,
+    n: &[i128],
+    answer: &mut Answer,
+) -> Result<bool, Stop> {
+    match question {
+        "identity matrix" => shown(Ok(identity(alloc, single(n)?)?.matrix), answer)?,
+        "symmetric identity" => is_symmetric(alloc, &identity(alloc, single(n)?)?, answer)?,
         _ => return Ok(false),
     }
     Ok(true)
 }
 
 /// A matrix by its shape and its entries, row after row.
+fn fitting_of(alloc: Global, shape: &[i128], entries: &[i128]) -> Result<Fitting, Stop> {
+    let matrix = matrix(alloc, shape, entries)?;
+    Ok(Fitting { matrix })
+}
+
+/// The same, and that it is of elements of the ring.
 fn matrix(alloc: Global, shape: &[i128], entries: &[i128]) -> Result<Mat<Ints>, Stop>
     ensures { IfOk result (AllFit integers) }
 {
@@ -117,40 +185,41 @@ fn shown(matrix: Result<Mat<Ints>, RingStop>, answer: &mut Answer) -> Result<(),
     Ok(())
 }
 
-fn product(alloc: Global, a: &Mat<Ints>, b: &Mat<Ints>, answer: &mut Answer) -> Result<(), Stop>
-    requires a { AllFit integers a.now }
-    requires b { AllFit integers b.now }
-{
-    if a.cols() != b.rows() {
-        return Err(Stop::NoQuestion);
-    }
-    shown(a.mul(alloc, &Ints, b), answer)
+fn transposed(alloc: Global, a: &Fitting, answer: &mut Answer) -> Result<(), Stop> {
+    shown(a.matrix.transpose(alloc, &Ints), answer)
 }
 
-fn sum(alloc: Global, a: &Mat<Ints>, b: &Mat<Ints>, answer: &mut Answer) -> Result<(), Stop>
-    requires a { AllFit integers a.now }
-    requires b { AllFit integers b.now }
-{
-    if a.rows() != b.rows() || a.cols() != b.cols() {
+fn product(alloc: Global, a: &Fitting, b: &Fitting, answer: &mut Answer) -> Result<(), Stop> {
+    if a.matrix.cols() != b.matrix.rows() {
         return Err(Stop::NoQuestion);
     }
-    shown(a.add(alloc, &Ints, b), answer)
+    shown(a.matrix.mul(alloc, &Ints, &b.matrix), answer)
 }
 
-fn direct_sum(alloc: Global, a: &Mat<Ints>, b: &Mat<Ints>, answer: &mut Answer) -> Result<(), Stop>
-    requires a { AllFit integers a.now }
-    requires b { AllFit integers b.now }
+fn sum(alloc: Global, a: &Fitting, b: &Fitting, answer: &mut Answer) -> Result<(), Stop> {
+    if !is_of_shape(a, b) {
+        return Err(Stop::NoQuestion);
+    }
+    shown(a.matrix.add(alloc, &Ints, &b.matrix), answer)
+}
+
+/// Whether two matrices have one shape.
+fn is_of_shape(a: &Fitting, b: &Fitting) -> bool
+    ensures { IsTrue result → (a.now.matrix.height ≡ b.now.matrix.height) × (a.now.matrix.width ≡ b.now.matrix.width) }
 {
+    a.matrix.rows() == b.matrix.rows() && a.matrix.cols() == b.matrix.cols()
+}
+
+fn direct_sum(alloc: Global, a: &Fitting, b: &Fitting, answer: &mut Answer) -> Result<(), Stop> {
+    let (a, b) = (&a.matrix, &b.matrix);
     if a.rows() + b.rows() > 1024 || a.cols() + b.cols() > 1024 {
         return Err(Stop::NoQuestion);
     }
     shown(a.direct_sum(alloc, &Ints, b), answer)
 }
 
-fn kronecker(alloc: Global, a: &Mat<Ints>, b: &Mat<Ints>, answer: &mut Answer) -> Result<(), Stop>
-    requires a { AllFit integers a.now }
-    requires b { AllFit integers b.now }
-{
+fn kronecker(alloc: Global, a: &Fitting, b: &Fitting, answer: &mut Answer) -> Result<(), Stop> {
+    let (a, b) = (&a.matrix, &b.matrix);
     let rows = a.rows().checked_mul(b.rows());
     let cols = a.cols().checked_mul(b.cols());
     match (rows, cols) {
@@ -160,60 +229,55 @@ fn kronecker(alloc: Global, a: &Mat<Ints>, b: &Mat<Ints>, answer: &mut Answer) -
 }
 
 /// Writes whether two matrices of one shape are equal.
-fn same(a: &Mat<Ints>, b: &Mat<Ints>, answer: &mut Answer) -> Result<(), Stop>
-    requires a { AllFit integers a.now }
-    requires b { AllFit integers b.now }
-{
-    if a.rows() != b.rows() || a.cols() != b.cols() {
+fn same(a: &Fitting, b: &Fitting, answer: &mut Answer) -> Result<(), Stop> {
+    if !is_of_shape(a, b) {
         return Err(Stop::NoQuestion);
     }
-    Ok(answer.word(if a.same(&Ints, b) { "yes" } else { "no" })?)
+    let is_same = a.matrix.same(&Ints, &b.matrix);
+    Ok(answer.word(if is_same { "yes" } else { "no" })?)
 }
 
 /// Writes the image of a vector of two entries.
-fn apply(alloc: Global, a: &Mat<Ints>, v: &[i128], answer: &mut Answer) -> Result<(), Stop>
-    requires { AllFit integers a.now }
-{
+fn apply(alloc: Global, a: &Fitting, v: &[i128], answer: &mut Answer) -> Result<(), Stop> {
     let (x, y) = pair(v)?;
     let v = [integer(alloc, x)?, integer(alloc, y)?];
-    if a.cols() != 2 {
+    if a.matrix.cols() != 2 {
         return Err(Stop::NoQuestion);
     }
-    match a.apply(alloc, &Ints, &v) {
+    match a.matrix.apply(alloc, &Ints, &v) {
         Ok(image) => Ok(answer.list(&image)?),
         Err(_) => Err(Stop::NoQuestion),
     }
 }
 
 /// Writes the next entry that is not 0, from a row on: its row, and the entry.
-fn next(a: &Mat<Ints>, start: (i128, i128), answer: &mut Answer) -> Result<(), Stop> {
+fn next(a: &Fitting, start: (i128, i128), answer: &mut Answer) -> Result<(), Stop> {
     let (from, col) = (index(start.0)?, index(start.1)?);
-    if col < 1 || col > a.cols() || from < 1 {
+    if col < 1 || col > a.matrix.cols() || from < 1 {
         return Err(Stop::NoQuestion);
     }
-    match a.next_kept(from - 1, col - 1) {
+    match a.matrix.next_kept(from - 1, col - 1) {
         Some((row, n)) => Ok(answer.list(&[row as i128 + 1, *n])?),
         None => Ok(answer.word("none")?),
     }
 }
 
 /// The identity matrix of a size.
-fn identity(alloc: Global, n: i128) -> Result<Mat<Ints>, Stop>
-    ensures { IfOk result (AllFit integers) }
-{
+fn identity(alloc: Global, n: i128) -> Result<Fitting, Stop> {
     let n = index(n)?;
     if n > 1024 {
         return Err(Stop::NoQuestion);
     }
-    Mat::identity(alloc, &Ints, n).map_err(|_| Stop::NoMemory)
+    match Mat::identity(alloc, &Ints, n) {
+        Ok(matrix) => Ok(Fitting { matrix }),
+        Err(_) => Err(Stop::NoMemory),
+    }
 }
 
 /// Writes whether a square matrix is equal to its transpose.
-fn is_symmetric(alloc: Global, a: &Mat<Ints>, answer: &mut Answer) -> Result<(), Stop>
-    requires { AllFit integers a.now }
-{
-    let Ok(b) = a.transpose(alloc, &Ints) else {
-        return Err(Stop::NoMemory);
-    };
-    same(a, &b, answer)
+fn is_symmetric(alloc: Global, a: &Fitting, answer: &mut Answer) -> Result<(), Stop> {
+    match a.matrix.transpose(alloc, &Ints) {
+        Ok(matrix) => same(a, &Fitting { matrix }, answer),
+        Err(_) => Err(Stop::NoMemory),
+    }
 }

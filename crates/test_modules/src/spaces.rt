@@ -27,36 +27,50 @@ pub(crate) fn about_spaces(
     lists: &[Vec<i128>],
     answer: &mut Answer,
 ) -> Result<bool, Stop> {
-    match (question, lists) {
-        ("lowered weight", [v]) => lowered(&roots.datum, v, answer)?,
-        ("pairing", [x, y]) => answer.number(paired(x, y)?)?,
-        ("weights of the adjoint module", [_]) => {
-            weights(&roots.datum, &adjoint(alloc, &roots.datum)?, answer)?
-        }
-        ("adjoint matrix", [letter]) => {
-            let (k, power) = pair(letter)?;
-            matrix(
-                &roots.datum,
-                &adjoint(alloc, &roots.datum)?,
-                k,
-                power,
-                answer,
-            )?;
-        }
-        ("orbit", [v]) => orbit(alloc, &roots.datum, table, v, answer)?,
-        ("orbit matrix", [v, letter]) => {
-            let (k, power) = pair(letter)?;
-            let space = made(alloc, &roots.datum, table, v)?;
-            matrix(&roots.datum, &space, k, power, answer)?;
-        }
-        ("carrier", [_]) => carrier(alloc, &roots.datum, answer)?,
-        ("carrier matrix", [letter]) => {
-            let (k, power) = pair(letter)?;
-            let space = made_carrier(alloc, &roots.datum)?;
-            matrix(&roots.datum, &space, k, power, answer)?;
-        }
-        ("signs of the adjoint module", [_]) => found_signs(alloc, roots, answer)?,
-        ("braid values", [_]) => braids(alloc, &roots.datum, table, answer)?,
+    let datum = &roots.datum;
+    match lists {
+        [list] => about_one_list(alloc, datum, table, question, list, answer),
+        [first, second] => about_two_lists(alloc, datum, table, question, first, second, answer),
+        _ => Ok(false),
+    }
+}
+
+/// Answers a question about one list.
+fn about_one_list(
+    alloc: Global,
+    datum: &Datum,
+    table: &[i8],
+    question: &str,
+    list: &[i128],
+    answer: &mut Answer,
+) -> Result<bool, Stop> {
+    match question {
+        "lowered weight" => lowered(datum, list, answer)?,
+        "weights of the adjoint module" => adjoint_weights(alloc, datum, answer)?,
+        "adjoint matrix" => adjoint_matrix(alloc, datum, list, answer)?,
+        "orbit" => orbit(alloc, datum, table, list, answer)?,
+        "carrier" => carrier(alloc, datum, answer)?,
+        "carrier matrix" => carrier_matrix(alloc, datum, list, answer)?,
+        "signs of the adjoint module" => found_signs(alloc, datum, answer)?,
+        "braid values" => braids(alloc, datum, table, answer)?,
+        _ => return Ok(false),
+    }
+    Ok(true)
+}
+
+/// Answers a question about two lists.
+fn about_two_lists(
+    alloc: Global,
+    datum: &Datum,
+    table: &[i8],
+    question: &str,
+    first: &[i128],
+    second: &[i128],
+    answer: &mut Answer,
+) -> Result<bool, Stop> {
+    match question {
+        "pairing" => answer.number(paired(first, second)?)?,
+        "orbit matrix" => orbit_matrix(alloc, datum, table, first, second, answer)?,
         _ => return Ok(false),
     }
     Ok(true)
@@ -105,7 +119,6 @@ fn lowered_of(datum: &Datum, v: &Vector) -> Vector
 }
 
 /// The adjoint module.
-#[tactic(auto, using(crate::proofs::SpaceLemmas::adjoint_of))]
 fn made_adjoint(alloc: Global, datum: &Datum) -> Result<Module, Stop>
     ensures { IfOk result (IsAdjointOf datum.now) }
 {
@@ -114,13 +127,27 @@ fn made_adjoint(alloc: Global, datum: &Datum) -> Result<Module, Stop>
 }
 
 /// The adjoint module, and that it is a module.
-#[tactic(auto, using(crate::proofs::SpaceLemmas::adjoint_module, crate::proofs::SpaceLemmas::positive_of))]
 pub(crate) fn adjoint(alloc: Global, datum: &Datum) -> Result<Module, Stop>
     ensures adjoint { IfOk result (IsAdjointOf datum.now) }
     ensures space { IfOk result (IsModule datum.now) }
     ensures positive { IfOk result (λ v. v.positive ≡ length datum.now.positive) }
 {
     made_adjoint(alloc, datum)
+}
+
+/// Writes the weights of the adjoint module.
+fn adjoint_weights(alloc: Global, datum: &Datum, answer: &mut Answer) -> Result<(), Stop> {
+    weights(datum, &adjoint(alloc, datum)?, answer)
+}
+
+/// Writes a matrix of the adjoint module.
+fn adjoint_matrix(
+    alloc: Global,
+    datum: &Datum,
+    letter: &[i128],
+    answer: &mut Answer,
+) -> Result<(), Stop> {
+    matrix(datum, &adjoint(alloc, datum)?, letter, answer)
 }
 
 /// Writes the weights of a module.
@@ -135,15 +162,10 @@ fn weights(datum: &Datum, space: &Module, answer: &mut Answer) -> Result<(), Sto
 }
 
 /// Writes the entries of E_r^(power) that are not 0, by columns: the row, the column and the entry.
-fn matrix(
-    datum: &Datum,
-    space: &Module,
-    k: i128,
-    power: i128,
-    answer: &mut Answer,
-) -> Result<(), Stop>
+fn matrix(datum: &Datum, space: &Module, letter: &[i128], answer: &mut Answer) -> Result<(), Stop>
     requires { space.now.positive ≡ length datum.now.positive }
 {
+    let (k, power) = pair(letter)?;
     let r = numbered(datum, k)?;
     let power = u32::try_from(power).map_err(|_| Stop::NoQuestion)?;
     if power < 1 || power > space.top(r) {
@@ -190,13 +212,26 @@ fn are_signs(table: &[i8]) -> bool
 }
 
 /// The module of an orbit, or its fault.
-#[tactic(auto, using(crate::proofs::SpaceLemmas::orbit_positive))]
 fn orbit_of(alloc: Global, datum: &Datum, signs: &Signs, v: &Vector) -> Result<Module, ModuleFault>
     requires signs { IsSignTable datum.now signs.now }
     requires v { IsWithin 100 v.now }
     ensures { IfOk result (λ space. space.positive ≡ length datum.now.positive) }
 {
     Module::orbit(alloc, datum, signs, v)
+}
+
+/// The module of the orbit of a weight with the signs of the last list of them, or its fault.
+fn found_orbit(
+    alloc: Global,
+    datum: &Datum,
+    table: &[i8],
+    v: &Vector,
+) -> Result<Result<Module, ModuleFault>, Stop>
+    requires { IsWithin 100 v.now }
+    ensures { IfOk result (λ found. IfOk found (λ space. space.positive ≡ length datum.now.positive)) }
+{
+    let signs = signs(alloc, datum, table)?;
+    Ok(orbit_of(alloc, datum, &signs, v))
 }
 
 /// Writes the weights of the module of an orbit, or its fault.
@@ -207,16 +242,29 @@ fn orbit(
     v: &[i128],
     answer: &mut Answer,
 ) -> Result<(), Stop> {
-    let signs = signs(alloc, datum, table)?;
-    let v = weight(v)?;
-    match orbit_of(alloc, datum, &signs, &v) {
+    match found_orbit(alloc, datum, table, &weight(v)?)? {
         Ok(space) => weights(datum, &space, answer),
-        Err(fault) => write_fault(fault, answer),
+        Err(fault) => write_fault(&fault, answer),
+    }
+}
+
+/// Writes a matrix of the module of an orbit.
+fn orbit_matrix(
+    alloc: Global,
+    datum: &Datum,
+    table: &[i8],
+    v: &[i128],
+    letter: &[i128],
+    answer: &mut Answer,
+) -> Result<(), Stop> {
+    match found_orbit(alloc, datum, table, &weight(v)?)? {
+        Ok(space) => matrix(datum, &space, letter, answer),
+        Err(_) => Err(Stop::NoQuestion),
     }
 }
 
 /// Writes the root at which a weight is not minuscule, how many weights there are, or which is too large.
-fn write_fault(fault: ModuleFault, answer: &mut Answer) -> Result<(), Stop> {
+fn write_fault(fault: &ModuleFault, answer: &mut Answer) -> Result<(), Stop> {
     match fault {
         ModuleFault::NotMinuscule(r) => {
             answer.word("not minuscule at")?;
@@ -224,26 +272,17 @@ fn write_fault(fault: ModuleFault, answer: &mut Answer) -> Result<(), Stop> {
         }
         ModuleFault::Wide(n) => {
             answer.word("wide")?;
-            Ok(answer.number(i128::from(n))?)
+            Ok(answer.number(i128::from(*n))?)
         }
         ModuleFault::Heavy(a) => {
             answer.word("heavy")?;
-            Ok(answer.number(a as i128)?)
+            Ok(answer.number(*a as i128)?)
         }
         _ => Err(Stop::NoQuestion),
     }
 }
 
-/// The module of an orbit.
-fn made(alloc: Global, datum: &Datum, table: &[i8], v: &[i128]) -> Result<Module, Stop>
-    ensures { IfOk result (λ space. space.positive ≡ length datum.now.positive) }
-{
-    let signs = signs(alloc, datum, table)?;
-    orbit_of(alloc, datum, &signs, &weight(v)?).map_err(|_| Stop::NoQuestion)
-}
-
 /// The signs that are read off the adjoint module.
-#[tactic(auto, using(crate::proofs::SpaceLemmas::tested_table))]
 fn signs_of(alloc: Global, datum: &Datum, space: &Module) -> Result<Signs, SignFault>
     requires { IsAdjointOf datum.now space.now }
     ensures { IfOk result (IsSignTable datum.now) }
@@ -252,7 +291,6 @@ fn signs_of(alloc: Global, datum: &Datum, space: &Module) -> Result<Signs, SignF
 }
 
 /// The carrier, or its fault.
-#[tactic(auto, using(crate::proofs::SpaceLemmas::carrier_positive))]
 fn carrier_of(
     alloc: Global,
     datum: &Datum,
@@ -271,34 +309,58 @@ fn found_carrier(alloc: Global, datum: &Datum) -> Result<Result<Module, ModuleFa
     ensures { IfOk result (λ found. IfOk found (λ space. space.positive ≡ length datum.now.positive)) }
 {
     let adjoint = adjoint(alloc, datum)?;
-    match signs_of(alloc, datum, &adjoint) {
-        Ok(signs) => Ok(carrier_of(alloc, datum, &signs, &adjoint)),
-        Err(_) => Err(Stop::NoQuestion),
-    }
+    carrier_over(alloc, datum, &adjoint)
 }
 
-/// The carrier.
-fn made_carrier(alloc: Global, datum: &Datum) -> Result<Module, Stop>
-    ensures { IfOk result (λ space. space.positive ≡ length datum.now.positive) }
+/// The carrier for the signs that are read off this adjoint module, or its fault.
+fn carrier_over(
+    alloc: Global,
+    datum: &Datum,
+    adjoint: &Module,
+) -> Result<Result<Module, ModuleFault>, Stop>
+    requires { IsAdjointOf datum.now adjoint.now }
+    ensures { IfOk result (λ found. IfOk found (λ space. space.positive ≡ length datum.now.positive)) }
 {
-    found_carrier(alloc, datum)?.map_err(|_| Stop::NoQuestion)
+    match signs_of(alloc, datum, adjoint) {
+        Ok(signs) => Ok(carrier_of(alloc, datum, &signs, adjoint)),
+        Err(_) => Err(Stop::NoQuestion),
+    }
 }
 
 /// Writes the weights of the carrier, or its fault.
 fn carrier(alloc: Global, datum: &Datum, answer: &mut Answer) -> Result<(), Stop> {
     match found_carrier(alloc, datum)? {
         Ok(space) => weights(datum, &space, answer),
-        Err(fault) => write_fault(fault, answer),
+        Err(fault) => write_fault(&fault, answer),
+    }
+}
+
+/// Writes a matrix of the carrier.
+fn carrier_matrix(
+    alloc: Global,
+    datum: &Datum,
+    letter: &[i128],
+    answer: &mut Answer,
+) -> Result<(), Stop> {
+    match found_carrier(alloc, datum)? {
+        Ok(space) => matrix(datum, &space, letter, answer),
+        Err(_) => Err(Stop::NoQuestion),
     }
 }
 
 /// Writes the signs that are read off the adjoint module.
-fn found_signs(alloc: Global, roots: &Roots, answer: &mut Answer) -> Result<(), Stop> {
-    let datum = &roots.datum;
-    let space = adjoint(alloc, &roots.datum)?;
-    let Ok(signs) = signs_of(alloc, datum, &space) else {
-        return Err(Stop::NoQuestion);
-    };
+fn found_signs(alloc: Global, datum: &Datum, answer: &mut Answer) -> Result<(), Stop> {
+    let space = adjoint(alloc, datum)?;
+    match signs_of(alloc, datum, &space) {
+        Ok(signs) => write_signs(datum, &signs, answer),
+        Err(_) => Err(Stop::NoQuestion),
+    }
+}
+
+/// Writes the signs, for each simple root those at all roots in order.
+fn write_signs(datum: &Datum, signs: &Signs, answer: &mut Answer) -> Result<(), Stop>
+    requires { IsSignTable datum.now signs.now }
+{
     for i in 0..datum.l() {
         for place in 0..2 * datum.m() {
             answer.number(signs.eta(i + 1, RootId::at(place, datum.m())))?;

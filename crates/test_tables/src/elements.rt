@@ -18,34 +18,163 @@ pub(crate) fn about_elements(
     lists: &[Vec<i128>],
     answer: &mut Answer,
 ) -> Result<bool, Stop> {
-    match (question, lists) {
-        ("element", [w]) => shown(alloc, datum, &element(alloc, datum, w)?, answer)?,
-        ("inverse element", [w]) => {
-            let w = inverse(datum, &element(alloc, datum, w)?);
-            shown(alloc, datum, &w, answer)?;
-        }
-        ("element of images", [images]) => from_images(alloc, datum, images, answer)?,
-        ("product of elements", [w, v]) => {
-            let (w, v) = (element(alloc, datum, w)?, element(alloc, datum, v)?);
-            shown(alloc, datum, &w.mul(datum, &v), answer)?;
-        }
-        ("simple factor behind", [w, i]) => {
-            let w = element(alloc, datum, w)?;
-            let i = simple_index(datum, single(i)?)?;
-            shown(alloc, datum, &w.times_simple(datum, i), answer)?;
-        }
-        ("simple factor before", [w, i]) => {
-            let w = element(alloc, datum, w)?;
-            let i = simple_index(datum, single(i)?)?;
-            shown(alloc, datum, &w.simple_times(datum, i), answer)?;
-        }
-        ("equal elements", [w, v]) => {
-            let (w, v) = (element(alloc, datum, w)?, element(alloc, datum, v)?);
-            answer.word(if w.same(&v) { "yes" } else { "no" })?;
-        }
+    match lists {
+        [list] => about_one_list(alloc, datum, question, list, answer),
+        [first, second] => about_two_lists(alloc, datum, question, first, second, answer),
+        _ => Ok(false),
+    }
+}
+
+/// Answers a question about one list.
+fn about_one_list(
+    alloc: Global,
+    datum: &Datum,
+    question: &str,
+    list: &[i128],
+    answer: &mut Answer,
+) -> Result<bool, Stop> {
+    match question {
+        "element" => shown(alloc, datum, &element(alloc, datum, list)?, answer)?,
+        "inverse element" => shown_inverse(alloc, datum, &element(alloc, datum, list)?, answer)?,
+        "element of images" => from_images(alloc, datum, list, answer)?,
         _ => return Ok(false),
     }
     Ok(true)
+}
+
+/// Answers a question about two lists.
+fn about_two_lists(
+    alloc: Global,
+    datum: &Datum,
+    question: &str,
+    word: &[i128],
+    list: &[i128],
+    answer: &mut Answer,
+) -> Result<bool, Stop> {
+    match question {
+        "product of elements" | "equal elements" => {
+            about_two_words(alloc, datum, question, word, list, answer)
+        }
+        "simple factor behind" | "simple factor before" => {
+            about_word_and_index(alloc, datum, question, word, single(list)?, answer)
+        }
+        _ => Ok(false),
+    }
+}
+
+/// Answers a question about the elements of two words.
+fn about_two_words(
+    alloc: Global,
+    datum: &Datum,
+    question: &str,
+    first: &[i128],
+    second: &[i128],
+    answer: &mut Answer,
+) -> Result<bool, Stop> {
+    let w = element(alloc, datum, first)?;
+    about_second(alloc, datum, question, &w, second, answer)
+}
+
+/// Answers a question about w and the element of a word.
+fn about_second(
+    alloc: Global,
+    datum: &Datum,
+    question: &str,
+    w: &Weyl,
+    word: &[i128],
+    answer: &mut Answer,
+) -> Result<bool, Stop>
+    requires { IsElement datum.now w.now }
+{
+    let v = element(alloc, datum, word)?;
+    about_both(alloc, datum, question, w, &v, answer)
+}
+
+/// Answers a question about w and v.
+fn about_both(
+    alloc: Global,
+    datum: &Datum,
+    question: &str,
+    w: &Weyl,
+    v: &Weyl,
+    answer: &mut Answer,
+) -> Result<bool, Stop>
+    requires w { IsElement datum.now w.now }
+    requires v { IsElement datum.now v.now }
+{
+    match question {
+        "product of elements" => shown_product(alloc, datum, w, v, answer)?,
+        "equal elements" => answer.word(if w.same(v) { "yes" } else { "no" })?,
+        _ => return Ok(false),
+    }
+    Ok(true)
+}
+
+/// Answers a question about the element of a word and a simple reflection.
+fn about_word_and_index(
+    alloc: Global,
+    datum: &Datum,
+    question: &str,
+    word: &[i128],
+    i: i128,
+    answer: &mut Answer,
+) -> Result<bool, Stop> {
+    let w = element(alloc, datum, word)?;
+    match question {
+        "simple factor behind" => shown_times_simple(alloc, datum, &w, i, answer)?,
+        "simple factor before" => shown_simple_times(alloc, datum, &w, i, answer)?,
+        _ => return Ok(false),
+    }
+    Ok(true)
+}
+
+/// Writes the inverse.
+fn shown_inverse(alloc: Global, datum: &Datum, w: &Weyl, answer: &mut Answer) -> Result<(), Stop>
+    requires { IsElement datum.now w.now }
+{
+    shown(alloc, datum, &inverse(datum, w), answer)
+}
+
+/// Writes w v.
+fn shown_product(
+    alloc: Global,
+    datum: &Datum,
+    w: &Weyl,
+    v: &Weyl,
+    answer: &mut Answer,
+) -> Result<(), Stop>
+    requires w { IsElement datum.now w.now }
+    requires v { IsElement datum.now v.now }
+{
+    shown(alloc, datum, &w.mul(datum, v), answer)
+}
+
+/// Writes w s_i.
+fn shown_times_simple(
+    alloc: Global,
+    datum: &Datum,
+    w: &Weyl,
+    i: i128,
+    answer: &mut Answer,
+) -> Result<(), Stop>
+    requires { IsElement datum.now w.now }
+{
+    let i = simple_index(datum, i)?;
+    shown(alloc, datum, &w.times_simple(datum, i), answer)
+}
+
+/// Writes s_i w.
+fn shown_simple_times(
+    alloc: Global,
+    datum: &Datum,
+    w: &Weyl,
+    i: i128,
+    answer: &mut Answer,
+) -> Result<(), Stop>
+    requires { IsElement datum.now w.now }
+{
+    let i = simple_index(datum, i)?;
+    shown(alloc, datum, &w.simple_times(datum, i), answer)
 }
 
 /// The product of the simple reflections of a word.

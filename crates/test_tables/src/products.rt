@@ -29,29 +29,160 @@ pub(crate) fn about_products(
     if !is_product(question) {
         return Ok(false);
     }
-    let datum = &roots.datum;
-    let consts = &constants(alloc, datum)?;
-    let u = match (question, lists) {
-        ("product", [a, b]) => {
-            let a = unipotent(alloc, field, datum, consts, a)?;
-            let b = unipotent(alloc, field, datum, consts, b)?;
-            product(alloc, field, datum, consts, &a, &b)?
-        }
-        ("inverse", [a]) => {
-            let a = unipotent(alloc, field, datum, consts, a)?;
-            inverse(alloc, field, datum, consts, &a)?
-        }
-        ("letters", letters) => collected(alloc, field, datum, consts, letters)?,
-        ("split", [a, w]) => {
-            let a = unipotent(alloc, field, datum, consts, a)?;
-            let w = element(alloc, datum, w)?;
-            split(alloc, field, datum, consts, &a, &w, answer)?;
-            return Ok(true);
-        }
+    let consts = constants(alloc, &roots.datum)?;
+    about_collected(alloc, field, &roots.datum, &consts, question, lists, answer)
+}
+
+/// Answers a question about products with these constants.
+fn about_collected(
+    alloc: Global,
+    field: &Field,
+    datum: &Datum,
+    consts: &Constants,
+    question: &str,
+    lists: &[Vec<i128>],
+    answer: &mut Answer,
+) -> Result<bool, Stop>
+    requires { LoadsConstants datum.now (Ok consts.now) }
+{
+    match (question, lists) {
+        ("product", [a, b]) => shown_product(alloc, field, datum, consts, a, b, answer)?,
+        ("inverse", [a]) => shown_inverse(alloc, field, datum, consts, a, answer)?,
+        ("letters", letters) => shown_letters(alloc, field, datum, consts, letters, answer)?,
+        ("split", [a, w]) => shown_split(alloc, field, datum, consts, a, w, answer)?,
         _ => return Ok(false),
-    };
-    write_entries(datum, &u, answer)?;
+    }
     Ok(true)
+}
+
+/// Writes the product of the elements with these entries.
+fn shown_product(
+    alloc: Global,
+    field: &Field,
+    datum: &Datum,
+    consts: &Constants,
+    a: &[i128],
+    b: &[i128],
+    answer: &mut Answer,
+) -> Result<(), Stop>
+    requires { LoadsConstants datum.now (Ok consts.now) }
+{
+    let a = unipotent(alloc, field, datum, consts, a)?;
+    shown_multiple(alloc, field, datum, consts, &a, b, answer)
+}
+
+/// Writes the product of an element and the element with these entries.
+fn shown_multiple(
+    alloc: Global,
+    field: &Field,
+    datum: &Datum,
+    consts: &Constants,
+    a: &Unip<Field>,
+    b: &[i128],
+    answer: &mut Answer,
+) -> Result<(), Stop>
+    requires loads { LoadsConstants datum.now (Ok consts.now) }
+    requires a { AreEntries (field_ring field.now) (length datum.now.positive) a.now }
+{
+    let b = unipotent(alloc, field, datum, consts, b)?;
+    shown_product_of(alloc, field, datum, consts, a, &b, answer)
+}
+
+/// Writes the product of two elements.
+fn shown_product_of(
+    alloc: Global,
+    field: &Field,
+    datum: &Datum,
+    consts: &Constants,
+    a: &Unip<Field>,
+    b: &Unip<Field>,
+    answer: &mut Answer,
+) -> Result<(), Stop>
+    requires loads { LoadsConstants datum.now (Ok consts.now) }
+    requires a { AreEntries (field_ring field.now) (length datum.now.positive) a.now }
+    requires b { AreEntries (field_ring field.now) (length datum.now.positive) b.now }
+{
+    let u = product(alloc, field, datum, consts, a, b)?;
+    write_entries(datum, &u, answer)
+}
+
+/// Writes the inverse of the element with these entries.
+fn shown_inverse(
+    alloc: Global,
+    field: &Field,
+    datum: &Datum,
+    consts: &Constants,
+    a: &[i128],
+    answer: &mut Answer,
+) -> Result<(), Stop>
+    requires { LoadsConstants datum.now (Ok consts.now) }
+{
+    let a = unipotent(alloc, field, datum, consts, a)?;
+    shown_inverse_of(alloc, field, datum, consts, &a, answer)
+}
+
+/// Writes the inverse of an element.
+fn shown_inverse_of(
+    alloc: Global,
+    field: &Field,
+    datum: &Datum,
+    consts: &Constants,
+    a: &Unip<Field>,
+    answer: &mut Answer,
+) -> Result<(), Stop>
+    requires loads { LoadsConstants datum.now (Ok consts.now) }
+    requires a { AreEntries (field_ring field.now) (length datum.now.positive) a.now }
+{
+    let u = inverse(alloc, field, datum, consts, a)?;
+    write_entries(datum, &u, answer)
+}
+
+/// Writes the product of letters.
+fn shown_letters(
+    alloc: Global,
+    field: &Field,
+    datum: &Datum,
+    consts: &Constants,
+    letters: &[Vec<i128>],
+    answer: &mut Answer,
+) -> Result<(), Stop>
+    requires { LoadsConstants datum.now (Ok consts.now) }
+{
+    let u = collected(alloc, field, datum, consts, letters)?;
+    write_entries(datum, &u, answer)
+}
+
+/// Writes the two parts of the element with these entries.
+fn shown_split(
+    alloc: Global,
+    field: &Field,
+    datum: &Datum,
+    consts: &Constants,
+    a: &[i128],
+    word: &[i128],
+    answer: &mut Answer,
+) -> Result<(), Stop>
+    requires { LoadsConstants datum.now (Ok consts.now) }
+{
+    let a = unipotent(alloc, field, datum, consts, a)?;
+    shown_split_of(alloc, field, datum, consts, &a, word, answer)
+}
+
+/// Writes the two parts of an element.
+fn shown_split_of(
+    alloc: Global,
+    field: &Field,
+    datum: &Datum,
+    consts: &Constants,
+    a: &Unip<Field>,
+    word: &[i128],
+    answer: &mut Answer,
+) -> Result<(), Stop>
+    requires loads { LoadsConstants datum.now (Ok consts.now) }
+    requires a { AreEntries (field_ring field.now) (length datum.now.positive) a.now }
+{
+    let w = element(alloc, datum, word)?;
+    split(alloc, field, datum, consts, a, &w, answer)
 }
 
 /// Whether a question is about products.

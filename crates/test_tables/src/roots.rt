@@ -42,13 +42,28 @@ fn root(datum: &Datum, list: &[i128], answer: &mut Answer) -> Result<(), Stop> {
 fn columns(datum: &Datum, r: RootId, answer: &mut Answer) -> Result<(), AllocError>
     requires { IsNumber datum.now r }
 {
-    let (d, l) = (datum.d(), datum.l());
-    answer.list(start(datum.coeffs(r), l))?;
-    answer.next(start(datum.co_coeffs(r), l))?;
-    answer.next(start(datum.root(r), d))?;
-    answer.next(start(datum.coroot(r), d))?;
+    coefficients(datum, r, answer)?;
+    vectors(datum, r, answer)?;
     answer.next(&[i128::from(datum.height(r))])?;
     answer.next(&[datum.length2(r)])
+}
+
+/// The coefficients of a root and of its coroot.
+fn coefficients(datum: &Datum, r: RootId, answer: &mut Answer) -> Result<(), AllocError>
+    requires { IsNumber datum.now r }
+{
+    let l = datum.l();
+    answer.list(start(datum.coeffs(r), l))?;
+    answer.next(start(datum.co_coeffs(r), l))
+}
+
+/// The vectors of a root and of its coroot.
+fn vectors(datum: &Datum, r: RootId, answer: &mut Answer) -> Result<(), AllocError>
+    requires { IsNumber datum.now r }
+{
+    let d = datum.d();
+    answer.next(start(datum.root(r), d))?;
+    answer.next(start(datum.coroot(r), d))
 }
 
 fn opposite(datum: &Datum, list: &[i128], answer: &mut Answer) -> Result<(), Stop> {
