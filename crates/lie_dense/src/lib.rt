@@ -15,3 +15,6 @@ mod rows;
 mod steps;
 
 pub use matrices::Dense;
+
+#[cfg(test)]
+mod tests;
