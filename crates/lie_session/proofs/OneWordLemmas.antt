@@ -1,13 +1,16 @@
 -- In a loaded group each word has one form, so one text, and two words are joined exactly if their forms are equal; constants that say the
 -- same change neither.
-use Rattle.std.proofs.Common.{◌≡◌, ℕ, List, refl, sym, ◌∙◌, subst, inl, inr}
+use Rattle.std.proofs.Common.{◌≡◌, ℕ, List, [], ◌∷◌, refl, sym, ◌∙◌, subst, inl, inr}
+use Rattle.lie_audit.specs.WordMatrix.{frame_with, IsLetterFor, IsWordFor}
 use Rattle.lie_audit.proofs.EqualMatricesLemmas.{equal_matrices}
 use Rattle.lie_const.specs.ConstantTables.{ConstantTable}
-use Rattle.lie_group.proofs.GroupLemmas.{word_for}
+use Rattle.lie_datum.specs.RootList.{RootDatum}
+use Rattle.lie_field.specs.FiniteField.{FiniteField}
 use Rattle.lie_letters.specs.GroupSpelled.{JoinedInGroup}
 use Rattle.lie_letters.specs.SignedFrames.{SignedFrame, unsigned}
-use Rattle.lie_letters.specs.Spelled.{IsWordOver}
+use Rattle.lie_letters.specs.Spelled.{IsLetterOver, IsWordOver}
 use Rattle.lie_letters.specs.declared.letter.Letter.{Letter}
+use Rattle.lie_letters.specs.declared.letter.Letter.TheVariants.{X, H, N, Ninv}
 use Rattle.lie_reduce.specs.UniqueForms.{IsCoveringFor}
 use Rattle.lie_reduce.proofs.OneForm.{forms_are_unique, some_shortest, covering_modules_are_faithful}
 use Rattle.lie_reply.specs.Commands.{TellsForm, FormTextOf}
@@ -27,6 +30,18 @@ covering_for g there = record { lawful = there.frame.lawful; audited = there.aud
 -- a word that was read is one of the group
 pub word_read : (g : LoadedGroup) (w : List Letter) → HasGroup g → IsWordWithin (sizes_of (stage.Loaded g)) w → IsWordOver (unsigned g.frame) w
 word_read g w there within = within (unsigned g.frame) refl (record { d_is = refl; l_is = refl; m_is = refl }) there.frame.lawful.lawful.loaded
+
+-- a letter of a frame is one whatever the constants
+letter_for : (F : FiniteField) (D : RootDatum) (c : ConstantTable) (x : Letter) → IsLetterOver (frame_with F D c) x → IsLetterFor F D x
+letter_for F D c (X r a) h e = h
+letter_for F D c (H t) h e = h
+letter_for F D c (N i) h e = h
+letter_for F D c (Ninv i) h e = h
+
+-- and so is a word
+word_for : (F : FiniteField) (D : RootDatum) (c : ConstantTable) (w : List Letter) → IsWordOver (frame_with F D c) w → IsWordFor F D w
+word_for F D c [] h e = h
+word_for F D c (x ∷ w) h e = (letter_for F D c x h.0 e, word_for F D c w h.1 e)
 
 -- the group with other constants
 abbrev pub with_constants : LoadedGroup → ConstantTable → LoadedGroup

@@ -233,14 +233,16 @@ same_decides_words mode lines replies s n bytes w v h says =
 
 -- ---- equal replies
 
+-- a reply at a stage to a line that asks for a form has the text of one
+abbrev PrintsAt : LoadedGroup → ℕ → Bool → ℕ → List ℕ → Line → List Letter → Reply → State → Stage → Type 0
+PrintsAt g k ended n bytes said w reply next at =
+    SaysLine (state_at at k ended) bytes said → asked_word g.frame.field said ≡ Some w → Replies (state_at at k ended) n bytes reply next → FormTextOf g.frame w reply.bytes
+
 -- what a reply to a command that asks for a form prints
 printed_at : (at : Stage) (g : LoadedGroup) (k : ℕ) (ended : Bool) (n : ℕ) (bytes : List ℕ) (said : Line) (w : List Letter) (reply : Reply) (next : State) → at ≡ stage.Loaded g
     → SaysLine (state_at at k ended) bytes said → asked_word g.frame.field said ≡ Some w → Replies (state_at at k ended) n bytes reply next → FormTextOf g.frame w reply.bytes
-printed_at at g k ended n bytes said w reply next is = subst PrintsAt (sym is) at_group where
-  abbrev PrintsAt : Stage → Type 0
-  PrintsAt at = SaysLine (state_at at k ended) bytes said → asked_word g.frame.field said ≡ Some w → Replies (state_at at k ended) n bytes reply next → FormTextOf g.frame w reply.bytes
-
-  at_group : PrintsAt (stage.Loaded g)
+printed_at at g k ended n bytes said w reply next is = subst (PrintsAt g k ended n bytes said w reply next) (sym is) at_group where
+  at_group : PrintsAt g k ended n bytes said w reply next (stage.Loaded g)
   at_group says asks r =
       let p = (form_does g k ended n bytes said w says asks reply next).0 r in
       subst (λ (z : List ℕ). FormTextOf g.frame w z) (sym (ap (λ (x : Reply). x.bytes) p.2.0)) p.1
