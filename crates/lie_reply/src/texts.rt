@@ -12,11 +12,7 @@ use std::alloc::{AllocError, Global};
 pub fn same_text(alloc: Global, joined: bool) -> Result<Text, AllocError>
     ensures { IfOk result (λ text. text ≡ text_of_same joined) }
 {
-    let answer = if joined {
-        b"yes\n".as_slice()
-    } else {
-        b"no\n"
-    };
+    let answer = if joined { b"yes\n".as_slice() } else { b"no\n" };
     Ok(Text::of(Vec::from_slice(alloc, answer)?))
 }
 

@@ -316,7 +316,7 @@ module _ (g : LoadedGroup) (there : HasGroup g) (k : ℕ) (ended : Bool) (n : �
         let out = answered (stage.Loaded g) (matrix_text (word_matrix g.frame.field v w)) in
         record {
           told = subst (DoesRead (loaded_state g k ended) n reply next) (sym said)
-            (out, at_some (out ≡ quiet (stage.Loaded g)) (λ u. out ≡ answered (stage.Loaded g) (matrix_text (word_matrix g.frame.field u w))) (module_of g.modules name) v is refl, a);
+              (out, at_some (out ≡ quiet (stage.Loaded g)) (λ u. out ≡ answered (stage.Loaded g) (matrix_text (word_matrix g.frame.field u w))) (module_of g.modules name) v is refl, a);
         }
 
   product_from : Fits (wants_of (stage.Loaded g)) (sizes_of (stage.Loaded g)) (listed_of g.modules) (line.Matrix name w)

@@ -106,15 +106,15 @@ IsTold (Err why) = IsSome (words_of why)
 same_from : (a b : Stage) → a ≡ b → IsSameStage a b
 same_from a b e = subst (IsSameStage a) e (equal a)
 
-same_outcome : (r q : Outcome) → r ≡ q → IsSameOutcome r q
-same_outcome (Ok x) (Ok y) e = let is : x ≡ y = cc in (same_from x.0 y.0 (ap (λ z. z.0) is), ap (λ z. z.1) is)
-same_outcome (Ok x) (Err why) e = absurd cc
-same_outcome (Err why) (Ok y) e = absurd cc
-same_outcome (Err why) (Err other) e = cc
+same_outcome : (at : Stage) (said : Line) (r q : Outcome) → r ≡ q → IsSameOutcome at said r q
+same_outcome at said (Ok x) (Ok y) e = let is : x ≡ y = cc in (same_from x.0 y.0 (ap (λ z. z.0) is), same_texts at said x.1 y.1 (ap (λ z. z.1) is))
+same_outcome at said (Ok x) (Err why) e = absurd cc
+same_outcome at said (Err why) (Ok y) e = absurd cc
+same_outcome at said (Err why) (Err other) e = cc
 
 -- two outcomes by two equations
-by_both : (r q x y : Outcome) → r ≡ x → q ≡ y → IsSameOutcome x y → IsSameOutcome r q
-by_both r q x y r_is q_is h = subst (λ z. IsSameOutcome z q) (sym r_is) (subst (λ z. IsSameOutcome x z) (sym q_is) h)
+by_both : (at : Stage) (said : Line) (r q x y : Outcome) → r ≡ x → q ≡ y → IsSameOutcome at said x y → IsSameOutcome at said r q
+by_both at said r q x y r_is q_is h = subst (λ z. IsSameOutcome at said z q) (sym r_is) (subst (λ z. IsSameOutcome at said x z) (sym q_is) h)
 
 told_as : (r x : Outcome) → r ≡ x → IsTold r → IsTold x
 told_as r x is h = subst IsTold is h
@@ -203,10 +203,10 @@ same_answers : (at : Stage) (said : Line) (x y : GroupAnswer) → IsSameGroupAns
 same_answers at said (Ok g) (Ok h) same = (
   same_groups g h same,
   inl (
-    ap (λ F. loaded_text F g.frame.datum (dimension g.carrier.module)) same.frame.field
-    ∙ ap (λ D. loaded_text h.frame.field D (dimension g.carrier.module)) same.frame.datum
-    ∙ ap (λ v. loaded_text h.frame.field h.frame.datum (dimension v)) same.carrier
-  ),
+      ap (λ F. loaded_text F g.frame.datum (dimension g.carrier.module)) same.frame.field
+      ∙ ap (λ D. loaded_text h.frame.field D (dimension g.carrier.module)) same.frame.datum
+      ∙ ap (λ v. loaded_text h.frame.field h.frame.datum (dimension v)) same.carrier
+      ),
 )
 same_answers at said (Ok g) (Err why) same = absurd same
 same_answers at said (Err why) (Ok h) same = absurd same

@@ -17,7 +17,7 @@ use Rattle.lie_letters.specs.GroupSpelled.{JoinedInGroup}
 use Rattle.lie_reduce.proofs.OneForm.{words_have_one_form}
 use Rattle.lie_reply.specs.Commands.{TellsForm, FormTextOf}
 use Rattle.lie_reply.proofs.OneFormText.{one_form_text}
-use Rattle.lie_reply.proofs.TextLemmas.{replies_tell_words}
+use Rattle.lie_reply.proofs.FormLemmas.{replies_tell_words}
 use Rattle.lie_script.specs.Accepted.{Fits}
 use Rattle.lie_script.specs.declared.line.Line.{Line}
 use Rattle.lie_script.specs.declared.line.Line.TheVariants as line
