@@ -21,3 +21,5 @@ pub mod FormRoots
 pub mod WeylSends
 pub mod UniqueFormsLemmas
 pub mod OneForm
+pub mod PeelLemmas
+pub mod CoefficientLemmas

@@ -3,3 +3,5 @@ pub mod Elimination
 pub mod Factors
 pub mod Levels
 pub mod UniqueForms
+pub mod Reduction
+pub mod PeelSteps
