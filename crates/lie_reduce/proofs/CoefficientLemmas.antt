@@ -1,9 +1,9 @@
 -- The multiple of a root vector that a matrix has at a place of it, and what a peeled module is.
-use Rattle.std.proofs.Common.{◌≡◌, ◌≢◌, ℕ, suc, true, ◌+◌, ◌<◌, ◌≤◌, List, [], ◌∷◌, length, sym, ap, ap₂, ◌∙◌, subst, arith}
-use Rattle.std.specs.Prelude.{ℤ, pos, slice_index_or, nat_lt}
+use Rattle.std.proofs.Common.{◌≡◌, ◌≢◌, ℕ, suc, true, ◌+◌, ◌<◌, ◌≤◌, List, [], ◌∷◌, length, sym, ap, ap₂, ◌∙◌, subst, arith, inl, inr, ⊎_elim}
+use Rattle.std.specs.Prelude.{ℤ, pos, slice_index_or, nat_lt, ◌⊎◌}
 use Rattle.std.proofs.lemmas.Bool.Decides.{nat_tests}
 use Rattle.lie_datum.specs.Numbers.{number_at}
-use Rattle.std.proofs.lemmas.Bool.{lt-ltb}
+use Rattle.std.proofs.lemmas.Bool.{cases_eq, ltb-true, lt-ltb}
 use Rattle.lie_ring.specs.Integers.{integers}
 use Rattle.lie_ring.specs.IntegerLaws.{integers_ring}
 use Rattle.lie_ring.specs.HomLemmas.{of_int_is_hom}
@@ -12,6 +12,9 @@ use Rattle.lie_ring.specs.Matrices.{Matrix, entry, image, zero_matrix, AllElem, 
 use Rattle.lie_ring.specs.MatrixLemmas.{entry-table}
 use Rattle.lie_ring.specs.MatrixImages.{image-entry}
 use Rattle.lie_field.specs.FiniteField.{FiniteField}
+use Rattle.lie_field.specs.Algebra.FieldTest.{is_lawful}
+use Rattle.lie_field.specs.Algebra.Powers
+use Rattle.lie_ring.specs.Rings.{IsElem}
 use Rattle.lie_field.specs.FieldRing.{field_ring, field_is_ring}
 use Rattle.lie_field.specs.Quotient.{order, mul, of_int}
 use Rattle.lie_const.specs.Modules.{Module, dimension, top, divided_powers, divided_power}
@@ -85,3 +88,10 @@ place_number m k low =
     let t : nat_lt k m ≡ true = grind (arith, nat_tests) in
     let next : k + 1 ≡ suc k = omega arith in
     rw t (ap pos next)
+
+-- a product of elements that is 0 has a factor that is 0
+pub field_domain : (f : FiniteField) (a b : ℕ) → IsElem (field_ring f) a → IsElem (field_ring f) b → mul f.given a b ≡ 0 → (a ≡ 0) ⊎ (b ≡ 0)
+field_domain f a b p q e = ⊎_elim
+    (λ (none : a ≡ 0). inl none)
+    (λ (some : a ≢ 0). inr (Powers.no_zero_divisors f.given (is_lawful f) a b (omega (arith, some)) (ltb-true a (order f.given) p) (ltb-true b (order f.given) q) e))
+    (cases_eq a 0)

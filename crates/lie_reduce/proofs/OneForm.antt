@@ -17,7 +17,7 @@ pub forms_are_unique : FormsAreUnique
 forms_are_unique f v ground x y is js p q hp hq same = form_same f v ground equal_matrices reversed_cancels shortest_words_joined weyl_moves_weights x y is js p q hp hq same
 
 -- the Weyl element of a form has a shortest word
-some_shortest : (f : SignedFrame) → IsLawfulSigned f → (x : FormData) → IsForm f x → (p : List ℕ) × IsShortest f.datum x.weyl p
+pub some_shortest : (f : SignedFrame) → IsLawfulSigned f → (x : FormData) → IsForm f x → (p : List ℕ) × IsShortest f.datum x.weyl p
 some_shortest f lawful x is =
     let d = f.datum in
     let loaded = lawful.lawful.loaded in

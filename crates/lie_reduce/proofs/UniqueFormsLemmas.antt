@@ -105,7 +105,7 @@ module _ (f : SignedFrame) (v : Module) (ground : IsCoveringFor f v) (equal : Eq
         right = cancels_right f ground.lawful v ground.audited equal cancels w over;
       }
 
-  upper : (us : List ℕ) → AreEntries (field_ring f.field) (length f.datum.positive) us
+  pub upper : (us : List ℕ) → AreEntries (field_ring f.field) (length f.datum.positive) us
       → IsUnipotent (field_ring f.field) (dimension v) (level f.datum v) (word_matrix f.field v (letters_from 1 us)) (word_matrix f.field v (reversed f.field (letters_from 1 us)))
   upper us e = unipotent (IsUp d) (level d v) (rises d loaded v ground.audited.graded) (letters_from 1 us) (list-up f loaded us e)
 
@@ -239,7 +239,7 @@ module _ (f : SignedFrame) (v : Module) (ground : IsCoveringFor f v) (equal : Eq
     abbrev along : List CodeLetter
     along = map N p
 
-    word : IsWord f.datum.base p
+    pub word : IsWord f.datum.base p
     word = is_word d.base p short.0.letters
 
     torus-over : IsWordOver (unsigned f) (H x.torus ∷ [])
@@ -254,17 +254,17 @@ module _ (f : SignedFrame) (v : Module) (ground : IsCoveringFor f v) (equal : Eq
             let j = index_of f.datum loaded (i - 1) (let l = index.0 in let u = index.1 in omega (arith, l, u)) in
             (subst (IsIndex f.datum) (let e = j.1 in let l = index.0 in omega (arith, e, l)) (number_of_index f.datum j.0), weyl_word w h)
 
-    middle-over : IsWordOver (unsigned f) (H x.torus ∷ map N p)
+    pub middle-over : IsWordOver (unsigned f) (H x.torus ∷ map N p)
     middle-over = (torus-over.0, weyl-over)
 
     -- u (h n_w v)
-    parts : word_matrix f.field v (form_word x p) ≡ product (field_ring f.field) (word_matrix f.field v first) (product (field_ring f.field) (word_matrix f.field v (H x.torus ∷ map N p)) (word_matrix f.field v second))
+    pub parts : word_matrix f.field v (form_word x p) ≡ product (field_ring f.field) (word_matrix f.field v first) (product (field_ring f.field) (word_matrix f.field v (H x.torus ∷ map N p)) (word_matrix f.field v second))
     parts =
         joined-words F v first (H x.torus ∷ (along ++ second))
         ∙ ap (product R (matrix first)) (joined-words F v (H x.torus ∷ along) second)
 
     -- h n_w sends weights by w
-    sends : Sends (field_ring f.field) (dimension v) (weight_at v) (word_matrix f.field v (H x.torus ∷ map N p)) (reflected_along f.datum p)
+    pub sends : Sends (field_ring f.field) (dimension v) (weight_at v) (word_matrix f.field v (H x.torus ∷ map N p)) (reflected_along f.datum p)
     sends =
         sends-along F v d loaded p word x.torus is.units (matrix along) (matrix (reversed F (H x.torus ∷ along))) (square along) (square (reversed F (H x.torus ∷ along)))
         (cancels_left f ground.lawful v ground.audited equal cancels (H x.torus ∷ along) middle-over)

@@ -5,3 +5,5 @@ pub mod Levels
 pub mod UniqueForms
 pub mod Reduction
 pub mod PeelSteps
+pub mod Pivots
+pub mod Places

@@ -5,14 +5,16 @@
 --   M is the matrix of x_1(a_1) .. x_m(a_m)         HasListMatrix f v [a_1, .., a_m] M
 --   M is the matrix of the word of the form x       HasFormMatrix f v x M
 --   M is the matrix of no word                      IsNoWordMatrix f v M
-use Rattle.std.specs.Prelude.{◌≡◌, ◌≢◌, ℕ, List, Option, None, Some, length}
+use Rattle.std.specs.Prelude.{◌≡◌, ◌≢◌, ℕ, ℤ, List, Option, None, Some, length}
 use Rattle.lie_ring.specs.Matrices.{Matrix}
 use Rattle.lie_field.specs.FieldRing.{field_ring}
 use Rattle.lie_const.specs.Modules.{Module}
+use Rattle.lie_letters.specs.declared.letter.Letter.{Letter}
 use Rattle.lie_letters.specs.RingLetters.{RingLetter, IsRingWord, full_word}
-use Rattle.lie_letters.specs.SignedFrames.{SignedFrame}
-use Rattle.lie_letters.specs.Spelled.{root_letters}
+use Rattle.lie_letters.specs.SignedFrames.{SignedFrame, unsigned}
+use Rattle.lie_letters.specs.Spelled.{IsWordOver, root_letters}
 use Rattle.lie_unip.specs.Collection.{AreEntries}
+use Rattle.lie_unip.specs.Forms.{FormData, IsForm, IsShortest, form_word}
 use Rattle.lie_identities.specs.Audited.{AuditedModule}
 use Rattle.lie_identities.specs.Covers.{IsCovering}
 use Rattle.lie_audit.specs.WordMatrix.{word_matrix}
@@ -38,3 +40,17 @@ IsNoPositiveMatrix f v M = (w : List (RingLetter ℕ)) → IsRingWord (field_rin
 abbrev pub Peels : SignedFrame → Module → Matrix ℕ → Option (List ℕ) → Type 0
 Peels f v M (Some u) = HasListMatrix f v u M
 Peels f v M None = IsNoPositiveMatrix f v M
+
+-- M is the matrix of the word of the form x, along each shortest word of its Weyl element
+pub record HasFormMatrix (f : SignedFrame) (v : Module) (x : FormData) (M : Matrix ℕ) : Type 0 where
+  pub form : IsForm f x
+  pub along : (p : List ℕ) → IsShortest f.datum x.weyl p → word_matrix f.field v (form_word x p) ≡ M
+
+-- M is the matrix of no word of the frame
+abbrev pub IsNoWordMatrix : SignedFrame → Module → Matrix ℕ → Type 0
+IsNoWordMatrix f v M = (w : List Letter) → IsWordOver (unsigned f) w → word_matrix f.field v w ≢ M
+
+-- what `pivots` answers: the Weyl element of each form with the matrix M, or that M is the matrix of no word
+abbrev pub HasPivots : SignedFrame → Module → Matrix ℕ → Option (List ℤ) → Type 0
+HasPivots f v M (Some w) = (x : FormData) → HasFormMatrix f v x M → x.weyl ≡ w
+HasPivots f v M None = IsNoWordMatrix f v M

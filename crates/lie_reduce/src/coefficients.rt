@@ -25,7 +25,7 @@ use lie_weight::Module;
 use std::alloc::{AllocError, Global};
 
 /// The first place, row after row, whose entry is not 0.
-fn nonzero_place(m: &Dense) -> Option<(usize, usize)>
+pub(crate) fn nonzero_place(m: &Dense) -> Option<(usize, usize)>
     ensures { MatchOption result (HasZerosAlone m.now) (IsNonzeroPlace m.now) }
 {
     let n = m.dim();
