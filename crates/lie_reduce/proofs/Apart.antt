@@ -7,7 +7,7 @@ use Rattle.lie_field.specs.FieldRing.{field_ring, field_is_ring}
 use Rattle.lie_field.specs.Quotient.{order, add}
 use Rattle.lie_field.specs.Algebra.FieldTest.{is_lawful}
 use Rattle.lie_field.specs.Algebra.Laws
-use Rattle.lie_reduce.specs.Elimination.{stepped, corner, outer, outer_from, Factored, AreApart}
+use Rattle.lie_reduce.specs.Elimination.{stepped, outer, outer_from, Factored, AreApart}
 use Rattle.lie_reduce.proofs.Steps.{stepped-below, corner-in}
 use Rattle.lie_reduce.proofs.Corners.{kept_corner, step-sums}
 use Rattle.lie_reduce.proofs.Exact.{left-step, corner_apart}

@@ -68,3 +68,13 @@ module _ (f : FiniteField) (v : Module) (m : ℕ) (level : ℕ → ℤ) (peel : 
       (λ (none : a ≡ 0). ap (word_matrix f v) (first_zero (suc j) a us none) ∙ sym (zero-letter f v (pos (suc j)) a (letters_from (suc j + 1) us) none) ∙ whole)
       (λ (some : a ≢ 0). ap (word_matrix f v) (first_other (suc j) a us some) ∙ whole)
       (cases_eq a 0)
+
+  -- so do the letters of all elements
+  pub full-product : (j : ℕ) (us : List ℕ) (u : ℕ → ℕ) → ((i : ℕ) → i < length us → get_or us i 0 ≡ u (j + i)) → word_matrix f v (root_letters (full_from (suc j) us)) ≡ factors (length us) j u
+  full-product j [] u same = refl
+  full-product j (a ∷ us) u same =
+      let next : suc j + 1 ≡ suc (suc j) = omega arith in
+      let here : a ≡ u j = same 0 (omega arith) ∙ ap u (let e : j + 0 ≡ j = omega arith in e) in
+      ap (λ b. product (field_ring f) (root_element (field_ring f) v (pos (suc j)) b) (word_matrix f v (root_letters (full_from (suc j + 1) us)))) here
+      ∙ ap (product (field_ring f) (root_element (field_ring f) v (pos (suc j)) (u j)))
+      (ap (λ s. word_matrix f v (root_letters (full_from s us))) next ∙ full-product (suc j) us u (λ i l. same (suc i) (omega (arith, l)) ∙ ap u (let e : j + suc i ≡ suc j + i = omega arith in e)))

@@ -22,7 +22,7 @@ module _ {A : Type 0} (R : RingOn A) (ring : IsRing R) (n : ℕ) where
   pub unit_here : (i : ℕ) → unit_entry R i i ≡ R.one
   unit_here i = ap (λ b. cond b R.one R.zero) (eq-eqb i i refl)
 
-  unit_other : (i j : ℕ) → i ≢ j → unit_entry R i j ≡ R.zero
+  pub unit_other : (i j : ℕ) → i ≢ j → unit_entry R i j ≡ R.zero
   unit_other i j h = ap (λ b. cond b R.one R.zero) (ne_eqb i j h)
 
   height_is : (M : Matrix A) → IsSquare R n M → M.height ≡ n
@@ -34,7 +34,7 @@ module _ {A : Type 0} (R : RingOn A) (ring : IsRing R) (n : ℕ) where
   pub element : (M : Matrix A) → IsSquare R n M → (i j : ℕ) → i < n → j < n → IsElem R (entry R.zero M i j)
   element M s i j p q = let h = height_is M s in let w = width_is M s in s.elem i j (omega (arith, p, h)) (omega (arith, q, w))
 
-  term_elem : (M N : Matrix A) → IsSquare R n M → IsSquare R n N → (i j k : ℕ) → i < n → j < n → k < n → IsElem R (product_term R M N i j k)
+  pub term_elem : (M N : Matrix A) → IsSquare R n M → IsSquare R n N → (i j k : ℕ) → i < n → j < n → k < n → IsElem R (product_term R M N i j k)
   term_elem M N s t i j k p q r = ring.laws.mul_elem (entry R.zero M i k) (entry R.zero N k j) (element M s i k p r) (element N t k j r q)
 
   -- an entry of a product of square matrices
@@ -51,7 +51,7 @@ module _ {A : Type 0} (R : RingOn A) (ring : IsRing R) (n : ℕ) where
       → ((l : ℕ) → l < n → l ≢ k → product_term R M N i j l ≡ R.zero) → entry R.zero (product R M N) i j ≡ product_term R M N i j k
   product-only M N s t i j k p q r zeros = product-sum_below M N s t i j p q ∙ sum-only R ring.laws n k (product_term R M N i j) r (λ l a. term_elem M N s t i j l p q a) zeros
 
-  left_zero : (M N : Matrix A) → IsSquare R n N → (i j k : ℕ) → j < n → k < n → entry R.zero M i k ≡ R.zero → product_term R M N i j k ≡ R.zero
+  pub left_zero : (M N : Matrix A) → IsSquare R n N → (i j k : ℕ) → j < n → k < n → entry R.zero M i k ≡ R.zero → product_term R M N i j k ≡ R.zero
   left_zero M N t i j k q r e = ap (λ x. R.mul x (entry R.zero N k j)) e ∙ zero_mul R ring.laws (entry R.zero N k j) (element N t k j r q)
 
   pub right_zero : (M N : Matrix A) → IsSquare R n M → (i j k : ℕ) → i < n → k < n → entry R.zero N k j ≡ R.zero → product_term R M N i j k ≡ R.zero

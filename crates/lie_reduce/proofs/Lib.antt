@@ -21,3 +21,13 @@ pub mod FormRoots
 pub mod WeylSends
 pub mod UniqueFormsLemmas
 pub mod OneForm
+pub mod PeelLemmas
+pub mod CoefficientLemmas
+pub mod PivotWeights
+pub mod Shears
+pub mod PivotColumns
+pub mod PlaceOrder
+pub mod LevelSums
+pub mod SortedPlaces
+pub mod PivotForms
+pub mod PivotImages

@@ -110,7 +110,7 @@ module _ {A : Type 0} (R : RingOn A) (ring : IsRing R) (n m : ℕ) (level : ℕ 
       ∙ peel.own i (u i) here (p i here)
 
   -- the first factor cancels
-  factors-cancel : (i c : ℕ) (u : ℕ → A) → i + suc c ≤ m → IsEntries u → product R (x i (R.neg (u i))) (factors_from (suc c) i u) ≡ factors_from c (suc i) u
+  pub factors-cancel : (i c : ℕ) (u : ℕ → A) → i + suc c ≤ m → IsEntries u → product R (x i (R.neg (u i))) (factors_from (suc c) i u) ≡ factors_from c (suc i) u
   factors-cancel i c u low p =
       let here : i < m = omega (arith, low) in
       let neg = ring.laws.neg_elem (u i) (p i here) in

@@ -29,9 +29,10 @@ some_simple : (b : Base) (r : Root) → IsRoot b r → 1 ≤ rank b
 some_simple b r (is_simple i h) = omega (arith, h.0, h.1)
 some_simple b r (is_reflected i s h p) = omega (arith, h.0, h.1)
 
+-- the vector of a root has 8 entries
+pub vector-long : (d : RootDatum) → IsLoaded d → (t : Root) → IsRoot d.base t → length (vector d.base t) ≡ 8
+vector-long d loaded t h = length-combination t.coeffs d.base.roots (let e = (lengths d loaded t h).0 in omega (arith, e)) (some_simple d.base t h) (λ k z l. (loaded.axioms.input.roots k z l).0.0)
+
 -- roots with the same pairings are equal
 pub roots_apart : (d : RootDatum) → IsLoaded d → (r s : Root) → IsRoot d.base r → IsRoot d.base s → SameWeight (vector d.base r) (vector d.base s) → r ≡ s
-roots_apart d loaded r s p q same = loaded.axioms.apart r s p q (same_in_X (vector d.base r) (vector d.base s) (long r p ∙ sym (long s q)) same)
-  where
-    long : (t : Root) → IsRoot d.base t → length (vector d.base t) ≡ 8
-    long t h = length-combination t.coeffs d.base.roots (let e = (lengths d loaded t h).0 in omega (arith, e)) (some_simple d.base t h) (λ k z l. (loaded.axioms.input.roots k z l).0.0)
+roots_apart d loaded r s p q same = loaded.axioms.apart r s p q (same_in_X (vector d.base r) (vector d.base s) (vector-long d loaded r p ∙ sym (vector-long d loaded s q)) same)

@@ -243,3 +243,11 @@ module _ {A : Type 0} (R : RingOn A) (ring : IsRing R) (d : RootDatum) (loaded :
     determines = λ i a b low p q same. cancel a b (value_at i) p q (ring.integers.int_elem (entry (pos 0) (divided_power v (pos (suc i)) 1) (live.row i) (live.col i))) (live.unit i low) same;
     inverse = inverse;
   }
+
+  -- their places are those at which the root vectors live
+  pub peel-places : (cancel : (a b e : A) → IsElem R a → IsElem R b → IsElem R e → e ≢ R.zero → R.mul a e ≡ R.mul b e → a ≡ b)
+      (inverse : (i : ℕ) (a : A) → i < length d.positive → IsElem R a → product R (root_element R v (pos (suc i)) (R.neg a)) (root_element R v (pos (suc i)) a) ≡ identity R (dimension v))
+      (i : ℕ) → ((roots_peel cancel inverse).row i ≡ live.row i) × ((roots_peel cancel inverse).col i ≡ live.col i)
+      × ((roots_peel cancel inverse).value i ≡ R.of_int (entry (pos 0) (divided_power v (pos (suc i)) 1) (live.row i) (live.col i)))
+  unfolding roots_peel value_at
+  peel-places cancel inverse i = (refl, refl, refl)

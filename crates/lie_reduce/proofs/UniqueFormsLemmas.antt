@@ -13,7 +13,7 @@ use Rattle.std.proofs.lemmas.Bool.{cases_lt, cases_eq, ltb-true}
 use Rattle.std.proofs.lemmas.List.{ext_get_or}
 use Rattle.lie_ring.specs.Rings.{RingOn, IsElem, IsRing}
 use Rattle.lie_ring.specs.RingLemmas.{int_zero, add_mul, neg_mul, zero_add}
-use Rattle.lie_ring.specs.Matrices.{Matrix, entry, product}
+use Rattle.lie_ring.specs.Matrices.{Matrix, entry, product, identity}
 use Rattle.lie_field.specs.FiniteField.{FiniteField}
 use Rattle.lie_field.specs.FieldRing.{field_ring, field_is_ring}
 use Rattle.lie_field.specs.Quotient.{order, mul, neg, of_int}
@@ -53,7 +53,7 @@ use Rattle.lie_reduce.specs.Levels.{level, Sends}
 use Rattle.lie_reduce.specs.UniqueForms.{IsCoveringFor}
 use Rattle.lie_reduce.proofs.Peeling.{ArePeelable, peeled, product-square}
 use Rattle.lie_reduce.proofs.UniqueFactors.{IsUnipotent, SameTriangular, same_maps, same_triangular, assoc, one_right}
-use Rattle.lie_reduce.proofs.RootsPeel.{AreLivePlaces, roots_peel}
+use Rattle.lie_reduce.proofs.RootsPeel.{AreLivePlaces, roots_peel, peel-places}
 use Rattle.lie_reduce.proofs.WeylWords.{same_product}
 use Rattle.lie_reduce.proofs.TorusWeights.{Agrees, torus_same, agrees-axis, agrees-numbers, agrees-difference, agrees-opposite}
 use Rattle.lie_reduce.proofs.WordInverses.{as_square, matrix-square, cancels_left, cancels_right, cancel_before, cancel_behind}
@@ -105,7 +105,7 @@ module _ (f : SignedFrame) (v : Module) (ground : IsCoveringFor f v) (equal : Eq
         right = cancels_right f ground.lawful v ground.audited equal cancels w over;
       }
 
-  upper : (us : List ℕ) → AreEntries (field_ring f.field) (length f.datum.positive) us
+  pub upper : (us : List ℕ) → AreEntries (field_ring f.field) (length f.datum.positive) us
       → IsUnipotent (field_ring f.field) (dimension v) (level f.datum v) (word_matrix f.field v (letters_from 1 us)) (word_matrix f.field v (reversed f.field (letters_from 1 us)))
   upper us e = unipotent (IsUp d) (level d v) (rises d loaded v ground.audited.graded) (letters_from 1 us) (list-up f loaded us e)
 
@@ -120,7 +120,7 @@ module _ (f : SignedFrame) (v : Module) (ground : IsCoveringFor f v) (equal : Eq
   place_lives i (inl low) l = let p = ground.covering.live (suc i) (omega arith) (omega (arith, low)) in (p.row_within, p.col_within, p.nonzero)
   place_lives i (inr high) l = absurd (let never : ⊥ = omega (arith, high, l) in never)
 
-  live : AreLivePlaces (field_ring f.field) f.datum v
+  pub live : AreLivePlaces (field_ring f.field) f.datum v
   live =
       let c = λ (i : ℕ). cases_lt i (length d.positive) in
       record {
@@ -138,7 +138,7 @@ module _ (f : SignedFrame) (v : Module) (ground : IsCoveringFor f v) (equal : Eq
       (λ (some : a ≢ 0). inr (Powers.no_zero_divisors F.given (is_lawful F) a b (omega (arith, some)) (ltb-true a (order F.given) p) (ltb-true b (order F.given) q) e))
       (cases_eq a 0)
 
-  cancel : (a b e : ℕ) → IsElem (field_ring f.field) a → IsElem (field_ring f.field) b → IsElem (field_ring f.field) e → e ≢ 0 → mul f.field.given a e ≡ mul f.field.given b e → a ≡ b
+  pub cancel : (a b e : ℕ) → IsElem (field_ring f.field) a → IsElem (field_ring f.field) b → IsElem (field_ring f.field) e → e ≢ 0 → mul f.field.given a e ≡ mul f.field.given b e → a ≡ b
   cancel a b e p q r some same =
       let laws = ring.laws in
       let minus = laws.neg_elem b q in
@@ -155,16 +155,32 @@ module _ (f : SignedFrame) (v : Module) (ground : IsCoveringFor f v) (equal : Eq
       (domain difference e (laws.add_elem a (R.neg b) p minus) r zero_product)
 
   -- ---- peeling
-  letter_over : (i a : ℕ) → i < length f.datum.positive → IsElem (field_ring f.field) a → IsWordOver (unsigned f) (X (pos (suc i)) a ∷ [])
+  pub letter_over : (i a : ℕ) → i < length f.datum.positive → IsElem (field_ring f.field) a → IsWordOver (unsigned f) (X (pos (suc i)) a ∷ [])
   letter_over i a l p = ((some_within d.positive i l, ltb-true a (order F.given) p), tt)
 
-  peel : ArePeelable (field_ring f.field) (dimension v) (length f.datum.positive) (level f.datum v) (λ i a. root_element (field_ring f.field) v (pos (suc i)) a)
-  peel = roots_peel R ring d loaded v ground.audited.graded live cancel (λ i a l p.
+  -- X_r(-a) X_r(a) = 1
+  pub inverse_roots : (i a : ℕ) → i < length f.datum.positive → IsElem (field_ring f.field) a
+      → product (field_ring f.field) (root_element (field_ring f.field) v (pos (suc i)) (neg f.field.given a)) (root_element (field_ring f.field) v (pos (suc i)) a) ≡ identity (field_ring f.field) (dimension v)
+  inverse_roots i a l p =
       sym (ap₂ (product R) (one_letter (pos (suc i)) (neg F.given a)) (one_letter (pos (suc i)) a))
-      ∙ cancels_left f ground.lawful v ground.audited equal cancels (X (pos (suc i)) a ∷ []) (letter_over i a l p))
+      ∙ cancels_left f ground.lawful v ground.audited equal cancels (X (pos (suc i)) a ∷ []) (letter_over i a l p)
     where
       one_letter : (k : ℤ) (a : ℕ) → word_matrix f.field v (X k a ∷ []) ≡ root_element (field_ring f.field) v k a
       one_letter k a = one_right (field_ring f.field) (field_is_ring f.field) (dimension v) (root_element (field_ring f.field) v k a) (as_square f.field (dimension v) (root_element (field_ring f.field) v k a) (letter-square f.field v (X k a)))
+
+  -- the root elements can be peeled off, at any places where the root vectors live
+  pub peel_at : AreLivePlaces (field_ring f.field) f.datum v
+      → ArePeelable (field_ring f.field) (dimension v) (length f.datum.positive) (level f.datum v) (λ i a. root_element (field_ring f.field) v (pos (suc i)) a)
+  peel_at places = roots_peel R ring d loaded v ground.audited.graded places cancel inverse_roots
+
+  pub peel_at-places : (places : AreLivePlaces (field_ring f.field) f.datum v) (i : ℕ)
+      → ((peel_at places).row i ≡ places.row i) × ((peel_at places).col i ≡ places.col i)
+      × ((peel_at places).value i ≡ of_int f.field.given (entry (pos 0) (divided_power v (pos (suc i)) 1) (places.row i) (places.col i)))
+  unfolding peel_at
+  peel_at-places places i = peel-places R ring d loaded v ground.audited.graded places cancel inverse_roots i
+
+  peel : ArePeelable (field_ring f.field) (dimension v) (length f.datum.positive) (level f.datum v) (λ i a. root_element (field_ring f.field) v (pos (suc i)) a)
+  peel = peel_at live
 
   -- lists whose letters have one matrix are equal
   lists_same : (us vs : List ℕ) → AreEntries (field_ring f.field) (length f.datum.positive) us → AreEntries (field_ring f.field) (length f.datum.positive) vs
@@ -223,7 +239,7 @@ module _ (f : SignedFrame) (v : Module) (ground : IsCoveringFor f v) (equal : Eq
     abbrev along : List CodeLetter
     along = map N p
 
-    word : IsWord f.datum.base p
+    pub word : IsWord f.datum.base p
     word = is_word d.base p short.0.letters
 
     torus-over : IsWordOver (unsigned f) (H x.torus ∷ [])
@@ -238,17 +254,17 @@ module _ (f : SignedFrame) (v : Module) (ground : IsCoveringFor f v) (equal : Eq
             let j = index_of f.datum loaded (i - 1) (let l = index.0 in let u = index.1 in omega (arith, l, u)) in
             (subst (IsIndex f.datum) (let e = j.1 in let l = index.0 in omega (arith, e, l)) (number_of_index f.datum j.0), weyl_word w h)
 
-    middle-over : IsWordOver (unsigned f) (H x.torus ∷ map N p)
+    pub middle-over : IsWordOver (unsigned f) (H x.torus ∷ map N p)
     middle-over = (torus-over.0, weyl-over)
 
     -- u (h n_w v)
-    parts : word_matrix f.field v (form_word x p) ≡ product (field_ring f.field) (word_matrix f.field v first) (product (field_ring f.field) (word_matrix f.field v (H x.torus ∷ map N p)) (word_matrix f.field v second))
+    pub parts : word_matrix f.field v (form_word x p) ≡ product (field_ring f.field) (word_matrix f.field v first) (product (field_ring f.field) (word_matrix f.field v (H x.torus ∷ map N p)) (word_matrix f.field v second))
     parts =
         joined-words F v first (H x.torus ∷ (along ++ second))
         ∙ ap (product R (matrix first)) (joined-words F v (H x.torus ∷ along) second)
 
     -- h n_w sends weights by w
-    sends : Sends (field_ring f.field) (dimension v) (weight_at v) (word_matrix f.field v (H x.torus ∷ map N p)) (reflected_along f.datum p)
+    pub sends : Sends (field_ring f.field) (dimension v) (weight_at v) (word_matrix f.field v (H x.torus ∷ map N p)) (reflected_along f.datum p)
     sends =
         sends-along F v d loaded p word x.torus is.units (matrix along) (matrix (reversed F (H x.torus ∷ along))) (square along) (square (reversed F (H x.torus ∷ along)))
         (cancels_left f ground.lawful v ground.audited equal cancels (H x.torus ∷ along) middle-over)

@@ -1,5 +1,5 @@
 -- The matrix of h(t) n_w sends weights by w.
-use Rattle.std.proofs.Common.{◌≡◌, ◌≢◌, ℕ, ◌<◌, cond, eqb, List, [], ◌∷◌, refl, sym, ap, ◌∙◌, arith}
+use Rattle.std.proofs.Common.{◌≡◌, ◌≢◌, ℕ, ◌<◌, cond, eqb, List, [], ◌∷◌, refl, sym, ap, ◌∙◌, arith, ap₂}
 use Rattle.std.specs.Prelude.{neg_ℤ, ◌+ℤ◌, ◌*ℤ◌, ◌⊎◌}
 use Rattle.std.proofs.lemmas.Int.{ints}
 use Rattle.std.proofs.lemmas.Bool.{cases_eq, eq-eqb, ne_eqb}
@@ -48,6 +48,16 @@ module _ (d : RootDatum) (loaded : IsLoaded d) where
       let y_c = turn y c in
       let here = same c in
       omega (arith, ints, x_c, y_c, here)
+
+  -- a reflection of one weight is one
+  reflected-same : (i : ℕ) (x y : Vector) → SameWeight x y → SameWeight (reflected_weight d i x) (reflected_weight d i y)
+  reflected-same i x y same c =
+      let turn = λ (z : Vector). pairing-reflected_vector d.base (short d loaded) loaded.axioms.input.corank i z c in
+      turn x ∙ ap₂ (λ s t. s +ℤ neg_ℤ t *ℤ pairing (simple_root d.base i) c) (same c) (same (simple_coroot d.base i)) ∙ sym (turn y)
+
+  pub along-same : (p : List ℕ) (x y : Vector) → SameWeight x y → SameWeight (reflected_along d p x) (reflected_along d p y)
+  along-same [] x y same = same
+  along-same (i ∷ p) x y same = reflected-same i (reflected_along d p x) (reflected_along d p y) (along-same p x y same)
 
   -- so are words of reflections
   pub along-once : (p : List ℕ) → IsWord d.base p → (x y : Vector) → SameWeight (reflected_along d p x) (reflected_along d p y) → SameWeight x y

@@ -4,3 +4,7 @@ pub mod Factors
 pub mod Levels
 pub mod UniqueForms
 pub mod Faithful
+pub mod Reduction
+pub mod PeelSteps
+pub mod Pivots
+pub mod Places
