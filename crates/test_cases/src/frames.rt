@@ -20,9 +20,17 @@ fn field_of_three(alloc: Global) -> Option<Field> {
 
 /// Whether the datum of this name has a frame over the field of three elements.
 fn has_frame(alloc: Global, name: &str) -> bool {
-    match (field_of_three(alloc), datum_of(alloc, name)) {
-        (Some(field), Some(datum)) => make_frame(alloc, field, datum).is_ok(),
-        _ => false,
+    match field_of_three(alloc) {
+        Some(field) => has_frame_over(alloc, field, name),
+        None => false,
+    }
+}
+
+/// Whether the datum of this name has a frame over a field.
+fn has_frame_over(alloc: Global, field: Field, name: &str) -> bool {
+    match datum_of(alloc, name) {
+        Some(datum) => make_frame(alloc, field, datum).is_ok(),
+        None => false,
     }
 }
 
