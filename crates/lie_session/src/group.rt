@@ -149,9 +149,9 @@ fn same(alloc: Global, group: &Group, w: &Word, v: &Word) -> Result<Text, AllocE
     ensures { IfOk result (TellsSame group.now.frame w.now v.now) }
 {
     group.lawful();
-    let w = group.form(alloc, w)?;
-    let v = group.form(alloc, v)?;
-    same_text(alloc, w.same(&v))
+    let x = group.form(alloc, w)?;
+    let y = group.form(alloc, v)?;
+    same_text(alloc, x.same(&y))
 }
 
 /// A group with its named modules.

@@ -9,5 +9,5 @@ form-requires-2 c = c.requires.right c.lawful.ensures.frame.lawful.lawful.loaded
 
 pub returns : goal.returns
 returns c =
-    same_tells c.args.group.now c.in_ok-w.w c.in_ok-v.v c.args.w.now c.args.v.now c.same.result c.same_text.result c.lawful.ensures c.in_ok-w.ensures c.in_ok-v.ensures
+    same_tells c.args.group.now c.in_ok-x.x c.in_ok-y.y c.args.w.now c.args.v.now c.same.result c.same_text.result c.lawful.ensures c.in_ok-x.ensures c.in_ok-y.ensures
     c.same.ensures c.same_text.ensures
