@@ -1,5 +1,5 @@
 //! What no line of a script shows by itself; lines and their refusals stand in the program's transcripts.
-use crate::{Names, NoNames, Text, put_number};
+use crate::{Fed, Lines, Names, NoNames, Text, put_number};
 use std::test::Fail;
 
 // The names of modules that are there.
@@ -28,5 +28,18 @@ fn numbers_are_decimal(rt: HostRuntime) -> Result<(), Fail> {
 fn a_text(rt: HostRuntime) -> Result<(), Fail> {
     let text = Text::of(Vec::from_slice(rt.alloc(), b"yes\n")?);
     assert_eq!(rt; text.bytes(), b"yes\n".as_slice());
+    Ok(())
+}
+
+#[test]
+fn a_line_in_two_pieces(rt: HostRuntime) -> Result<(), Fail> {
+    let mut lines = Lines::new(rt.alloc())?;
+    assert!(rt; !lines.waiting());
+    assert_eq!(rt; lines.feed(b"ab"), Fed::Part);
+    assert_eq!(rt; lines.feed(b"c\nd"), Fed::Line(2));
+    assert_eq!(rt; lines.front(), b"abc".as_slice());
+    assert!(rt; lines.waiting());
+    lines.next();
+    assert_eq!(rt; lines.front(), b"".as_slice());
     Ok(())
 }
