@@ -1,19 +1,16 @@
 -- Cutting a piece at its first LF, and lines that are too long.
-use Rattle.std.proofs.Common.{◌≡◌, ◌≢◌, ℕ, suc, ◌+◌, ◌-◌, ◌<◌, ◌≤◌, Bool, true, false, not, cond, min, eqb, List, [], ◌∷◌, ◌++◌, length, take, drop, Result, Err, refl, inl, inr, ap, sym, ◌∙◌, subst, arith, append_assoc, length-append}
-use Rattle.std.specs.List.{AllByRecursion}
+use Rattle.std.proofs.Common.{◌≡◌, ℕ, suc, ◌+◌, ◌-◌, ◌<◌, ◌≤◌, Bool, true, false, not, cond, min, eqb, List, [], ◌∷◌, ◌++◌, length, take, Err, refl, inl, inr, ap, sym, ◌∙◌, subst, arith, append_assoc, length-append}
 use Rattle.std.proofs.lemmas.Bool.{lt-leb, eqb-true, eqb-false, cases_Bool}
 use Rattle.std.proofs.lemmas.List.{take_all, take_min, take-take, length-take-le}
 use Rattle.std.proofs.Math.Seq.{take-append_seam, take-append-add}
 use Rattle.lie_script.specs.Checks.{◌>>=◌, unless}
 use Rattle.lie_script.specs.Fields.{place_of, fields_of}
-use Rattle.lie_script.specs.Lines.{HasNoLf, Takes, IsFed, kept_limit}
+use Rattle.lie_script.specs.Lines.{HasNoLf, IsFed, kept_limit}
 use Rattle.lie_script.specs.Names.{Listed}
 use Rattle.lie_script.specs.Reading.{said, reads}
-use Rattle.lie_script.specs.declared.faults.Fault.{Fault}
 use Rattle.lie_script.specs.declared.faults.Fault.TheVariants.{Bare}
 use Rattle.lie_script.specs.declared.faults.FaultName.TheVariants as fault
 use Rattle.lie_script.specs.declared.line.Line.{Line}
-use Rattle.lie_script.specs.declared.lines.Fed.{Fed}
 use Rattle.lie_script.specs.declared.lines.Fed.TheVariants as fed
 use Rattle.lie_script.specs.declared.sizes.Sizes.{Sizes}
 use Rattle.lie_script.specs.declared.sizes.Wants.{Wants}

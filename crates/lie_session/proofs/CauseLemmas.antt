@@ -1,5 +1,5 @@
 -- The cause of a status, from what was read and written.
-use Rattle.std.proofs.Common.{◌≡◌, ◌≢◌, ℕ, Bool, true, false, cond, take, Result, Ok, Err, ◌+◌, ◌<◌, ◌≤◌, List, [], ◌∷◌, ◌++◌, Option, Some, None, length, refl, sym, ◌∙◌, ap, subst, ◌⊎◌, inl, inr, arith, append_assoc, append-nil, length-append}
+use Rattle.std.proofs.Common.{◌≡◌, ◌≢◌, ℕ, Bool, true, false, cond, take, Ok, Err, ◌+◌, ◌<◌, ◌≤◌, List, [], ◌∷◌, ◌++◌, Option, Some, None, length, refl, sym, ◌∙◌, ap, subst, ◌⊎◌, inl, inr, arith, append_assoc, append-nil, length-append}
 use Rattle.lie_kit.specs.Streams.{Rose, after_bytes, IsSpent}
 use Rattle.std.specs.Prelude.{nat_eq}
 use Rattle.lie_session.specs.State.{State, fresh, is_loaded, ended_status}
@@ -8,7 +8,6 @@ use Rattle.lie_session.specs.Output.{rests, bytes_of, IsOutput, BeginsOutput}
 use Rattle.lie_session.specs.Runs.{Gave, GrewBy, IsRead, ReadAndWrote, TookAndWrote, WritesWholeLines, BeginsWholeLines, Cause, ReadCounts, WriteCounts, Completes, Complete, Exceeds, input_limit}
 use Rattle.lie_session.specs.Steps.{Replied, Progress, StopCounts, AnsweredAtEnd, Heard, HeardLast, Finished, Ran, stop_status}
 use Rattle.lie_session.specs.declared.mode.Mode.{Mode}
-use Rattle.lie_session.specs.declared.mode.Mode.TheVariants.{Check}
 use Rattle.lie_session.specs.declared.output.WriteStop.{WriteStop}
 use Rattle.lie_session.specs.declared.output.WriteStop.TheVariants.{Fault as WriteFailed, NoMemory as WriteMemory}
 use Rattle.lie_session.specs.declared.status.Status.{Status}

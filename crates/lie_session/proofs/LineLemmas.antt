@@ -1,6 +1,6 @@
 -- Pieces and lines of a text that ends with an LF or goes on behind one.
-use Rattle.std.proofs.Common.{◌≡◌, ◌≢◌, ℕ, zero, suc, ◌+◌, ◌<◌, ◌≤◌, Bool, true, false, List, [], ◌∷◌, ◌++◌, length, get_or, take, map, refl, ap, sym, ◌∙◌, subst, arith, cond, eqb, inl, inr, append_assoc, append-nil}
-use Rattle.std.specs.List.{onto_first, AllByRecursion}
+use Rattle.std.proofs.Common.{◌≡◌, ◌≢◌, ℕ, zero, suc, ◌+◌, ◌≤◌, Bool, true, false, List, [], ◌∷◌, ◌++◌, length, get_or, take, map, refl, ap, sym, ◌∙◌, subst, arith, cond, eqb, inl, inr, append_assoc, append-nil}
+use Rattle.std.specs.List.{onto_first}
 use Rattle.std.proofs.lemmas.Bool.{ne_eqb, eq-eqb, eqb-true, eqb-false, cases_Bool, cases_lt}
 use Rattle.std.proofs.lemmas.List.{map-append, take_all, take-take, take-append-le, length-take-le}
 use Rattle.lie_script.specs.Lines.{HasNoLf, kept_limit}

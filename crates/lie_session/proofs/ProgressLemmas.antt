@@ -1,5 +1,5 @@
 -- How far a run over the bytes of a script has come.
-use Rattle.std.proofs.Common.{◌≡◌, ◌≢◌, ℕ, ◌+◌, ◌≤◌, Bool, true, false, List, [], ◌∷◌, ◌++◌, length, take, drop, ◌-◌, Option, Result, Ok, Err, refl, ap, sym, ◌∙◌, subst, append_assoc, append-nil, inl, inr, length-append, length-drop, cond, arith, ◌⊎◌}
+use Rattle.std.proofs.Common.{◌≡◌, ◌≢◌, ℕ, ◌+◌, ◌≤◌, Bool, true, false, List, [], ◌∷◌, ◌++◌, length, take, drop, ◌-◌, Option, Result, Ok, Err, refl, ap, sym, ◌∙◌, subst, append_assoc, append-nil, inl, inr, length-append, length-drop, cond, arith}
 use Rattle.std.specs.Prelude.{nat_eq}
 use Rattle.std.specs.Bool.{MatchBool}
 use Rattle.std.proofs.lemmas.Bool.{false≢true, cases_Bool}
@@ -17,7 +17,7 @@ use Rattle.lie_session.specs.declared.status.Status.TheVariants.{Done, Refused, 
 use Rattle.lie_session.specs.Lines.{lines_of, without_cr, IsCutAtLastLf}
 use Rattle.lie_session.specs.State.{State, fresh, is_loaded, ended_status}
 use Rattle.lie_session.specs.Replies.{Replies, RepliesAtEnd}
-use Rattle.lie_session.specs.Output.{rests, RepliesTo, AreReplies, AreFirstReplies, bytes_of, IsOutput, BeginsOutput}
+use Rattle.lie_session.specs.Output.{rests, RepliesTo, AreReplies, bytes_of, IsOutput, BeginsOutput}
 use Rattle.lie_session.specs.Runs.{GrewBy, BeginsWholeLines}
 use Rattle.lie_session.specs.Steps.{GrewByPrefix, Answered, AnsweredAtEnd, Replied, Progress, AllReplied, StopCounts, HeardLast, stop_status}
 use Rattle.lie_session.proofs.LineLemmas.{lines-append, lines-line, lines-last, no-lf-append, cut-more, cut-part, cut-whole, kept-append, kept-none, replies-kept}

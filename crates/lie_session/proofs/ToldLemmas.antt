@@ -1,8 +1,7 @@
 -- Told bytes, one step after another.
-use Rattle.std.proofs.Common.{◌≡◌, ℕ, ◌<◌, List, [], ◌++◌, length, Option, Some, None, refl, ap, sym, ◌∙◌, append_assoc, append-nil, length-append, arith}
-use Rattle.std.proofs.Common.{Bool, true, false, eqb, ◌≢◌, ◌↔◌, ◌∷◌}
-use Rattle.std.proofs.lemmas.Bool.{eqb-true, iff_false}
-use Rattle.std.proofs.lemmas.List.{nil_from_length}
+use Rattle.std.proofs.Common.{◌≡◌, ℕ, ◌<◌, List, [], ◌++◌, length, Option, Some, None, refl, ap, sym, append_assoc, append-nil, length-append, arith}
+use Rattle.std.proofs.Common.{Bool, true, false, ◌≢◌, ◌↔◌, ◌∷◌}
+use Rattle.std.proofs.lemmas.Bool.{iff_false}
 use Rattle.std.specs.Option.{IfSome}
 use Rattle.lie_kit.specs.Streams.{after_bytes, with_bytes}
 
@@ -22,10 +21,6 @@ with_none (Some xs) = ap Some (append-nil xs)
 pub had_more : (old : Option (List ℕ)) (bytes : List ℕ) (new : Option (List ℕ)) (n : ℕ) → old ≡ after_bytes bytes new → n < length bytes → IfSome old (λ input. n < length input)
 had_more old bytes None n is more = rw is tt
 had_more old bytes (Some xs) n is more = rw is (let long : n < length (bytes ++ xs) = rw (length-append bytes xs) (omega arith) in long)
-
--- a list that the test finds empty
-pub empty_from : (xs : List ℕ) (b : Bool) → b ≡ eqb (length xs) 0 → b ≡ true → xs ≡ []
-empty_from xs b is none = nil_from_length xs (eqb-true (length xs) 0 (sym is ∙ none))
 
 -- a list of which the test says that nothing is there
 pub none-from : (b : Bool) (xs : List ℕ) → ((b ≡ true) ↔ (xs ≢ [])) → b ≡ false → xs ≡ []

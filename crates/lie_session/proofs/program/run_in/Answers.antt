@@ -1,4 +1,4 @@
-use Rattle.std.proofs.Common.{arith, ◌≡◌, ◌≤◌, ◌+◌, ℕ, [], ◌++◌, length, refl, sym, ap, ◌∙◌, subst, length-append}
+use Rattle.std.proofs.Common.{arith, ◌≡◌, ◌+◌, ℕ, [], ◌++◌, length, refl, sym, ap, ◌∙◌, subst, length-append}
 use Rattle.lie_session.specs.Steps.{Progress, Ran}
 use Rattle.lie_session.specs.declared.talk.Talk.{Talk}
 use Rattle.lie_session.proofs.CauseLemmas.{after-none}

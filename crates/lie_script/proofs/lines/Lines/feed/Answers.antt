@@ -1,5 +1,4 @@
-use Rattle.std.proofs.Common.{◌≡◌, ◌+◌, ◌<◌, ◌≤◌, length, take, ap, subst}
-use Rattle.lie_script.specs.Fields.{place_of}
+use Rattle.std.proofs.Common.{◌+◌, ◌<◌, ◌≤◌, length, take, ap, subst}
 use Rattle.lie_script.proofs.LinesLemmas.{fed-line, fed-part}
 use Rattle.lie_script.proofs.lines.Lines.feed.Goals as goal
 

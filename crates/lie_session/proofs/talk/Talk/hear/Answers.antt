@@ -1,4 +1,4 @@
-use Rattle.std.proofs.Common.{rules, arith, ◌≡◌, true, false, [], ◌∷◌, ◌+◌, ◌≤◌, List, ℕ, ◌++◌, length, drop, refl, sym, ap, ◌∙◌, subst, append_assoc, append-nil}
+use Rattle.std.proofs.Common.{rules, arith, ◌≡◌, true, false, [], ◌∷◌, ◌+◌, List, ℕ, ◌++◌, refl, sym, ap, ◌∙◌, subst, append_assoc, append-nil}
 use Rattle.std.proofs.lemmas.List.{take_rest}
 use Rattle.lie_session.specs.Output.{rests}
 use Rattle.lie_session.specs.Runs.{GrewBy, BeginsWholeLines}
