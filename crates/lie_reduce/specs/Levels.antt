@@ -1,7 +1,7 @@
 -- Square matrices whose places have levels: what stands beside the identity raises the level.
+-- For proofs: no public clause cites it.
 -- Source: Carter, Simple Groups of Lie Type, chapters 5 and 8 (unipotent elements on a module, by heights of weights).
--- Own: levels alone, no order of the basis; places of equal level need no care. No contract cites these words: they serve the
--- proof that a form is determined by its matrix.
+-- Own: levels alone, no order of the basis; places of equal level need no care.
 --
 --   the level of place a       level d v a             the pairing of its weight with the sum of the positive coroots
 --   raises levels by g         Raises R n level g M    beside the identity, an entry's row is g levels above its column at least

@@ -2,7 +2,7 @@ use Rattle.std.proofs.Common.{◌≡◌, ◌∙◌, ap, arith}
 use Rattle.lie_mat.specs.Parts.{partial_table}
 use Rattle.lie_mat.specs.PartLemmas.{partial-row, partial-all}
 use Rattle.lie_reduce.specs.Pivots.{sorted_entry}
-use Rattle.lie_reduce.proofs.reading.sorted.Goals as goal
+use Rattle.lie_reduce.proofs.sorting.sorted.Goals as goal
 
 pub loop-row-preserved : goal.loop-row-preserved
 loop-row-preserved c =

@@ -5,7 +5,7 @@ use Rattle.lie_datum.specs.Vectors.{plus, times}
 use Rattle.lie_datum.specs.RootDatum.{IsWithin}
 use Rattle.lie_orbit.proofs.WeightLemmas.{root_within, none_more, none_all}
 use Rattle.lie_reduce.specs.Pivots.{IsStep}
-use Rattle.lie_reduce.proofs.reading.root_between.Goals as goal
+use Rattle.lie_reduce.proofs.images.root_between.Goals as goal
 
 pub less_multiple-requires-clause-root : goal.less_multiple-requires-clause-root
 less_multiple-requires-clause-root c = subst (IsWithin 80000) (sym c.root.ensures) (root_within c.args.datum.now c.loaded.ensures c.root_at-r.result c.root_at-r.ensures.number)

@@ -1,21 +1,20 @@
 //! The Weyl element of a matrix, from its pivots.
 
-ghost use Rattle.std.specs.Prelude.{◌≡◌, ◌≢◌, ◌<◌, ◌≤◌, ◌-◌, ℕ, pos, IfOk, MatchOption, length, slice_index_or};
-ghost use Rattle.std.specs.List.{All};
-ghost use Rattle.lie_ring.specs.Matrices.{AllElem, entry, table};
-ghost use Rattle.lie_mat.specs.Parts.{partial_table};
+ghost use Rattle.std.specs.Prelude.{◌≡◌, ◌<◌, ℕ, pos, IfOk, MatchOption, slice_index_or};
+ghost use Rattle.lie_ring.specs.Matrices.{AllElem};
 ghost use Rattle.lie_field.specs.FieldRing.{field_ring};
 ghost use Rattle.lie_datum.specs.RootDatum.{IsSimpleIndex, IsWithin, rank};
 ghost use Rattle.lie_datum.specs.RootList.{IsNumber};
 ghost use Rattle.lie_const.specs.Modules.{IsModule, dimension};
 ghost use Rattle.lie_identities.specs.Audit.{HasLightWeights};
 ghost use Rattle.lie_identities.specs.Covers.{IsLiveAt};
-ghost use Rattle.lie_reduce.specs.Pivots.{sorted_entry, IsRootBetween, HasNoRootBetween, IsImage, HasNoImage, AreImages, HasSomeNoImage, ArePlaces};
+ghost use Rattle.lie_reduce.specs.Pivots.{IsRootBetween, HasNoRootBetween, IsImage, HasNoImage, AreImages, HasSomeNoImage, ArePlaces};
 ghost use Rattle.lie_reduce.specs.Reduction.{CoversFrame, HasPivots};
 
 use crate::coefficients::nonzero_place;
 use crate::columns::pivots_of;
 use crate::places::places_in_order;
+use crate::sorting::sorted;
 use lie_datum::{Datum, RootId, Vector};
 use lie_dense::Dense;
 use lie_field::Field;
@@ -25,31 +24,6 @@ use lie_orbit::less_multiple;
 use lie_weight::Module;
 use lie_weyl::Weyl;
 use std::alloc::{AllocError, Global};
-
-/// Fills a row of a matrix whose rows and columns stand in another order, where zeros stand.
-fn fill_row(m: &Dense, places: &[usize], next: &mut Dense, row: usize)
-    requires places { ArePlaces m.now.height places.now }
-    requires row { row < m.now.height }
-    requires partly { next.old ≡ partial_table 0 m.now.height m.now.height (sorted_entry m.now places.now) row 0 }
-    ensures partly { next.new ≡ partial_table 0 m.now.height m.now.height (sorted_entry m.now places.now) row m.now.height }
-{
-    for j in 0..m.dim() {
-        next.set(row, j, m.get(places[row], places[j]));
-    }
-}
-
-/// The matrix with its rows and columns in the order of the places.
-fn sorted(alloc: Global, m: &Dense, places: &[usize]) -> Result<Dense, AllocError>
-    requires { ArePlaces m.now.height places.now }
-    ensures { IfOk result (λ x. x ≡ table m.now.height m.now.height (sorted_entry m.now places.now)) }
-{
-    let n = m.dim();
-    let mut next = Dense::zero(alloc, n)?;
-    for row in 0..n {
-        fill_row(m, places, &mut next, row);
-    }
-    Ok(next)
-}
 
 /// The root that leads from the weight y to the weight x.
 fn root_between(datum: &Datum, x: &Vector, y: &Vector) -> Option<RootId>

@@ -9,7 +9,7 @@ use Rattle.lie_const.specs.Modules.{dimension}
 use Rattle.lie_reduce.specs.Pivots.{sorted_entry, HoldsAtPivots, HasNoRootBetween, IsRootBetween, HasNoImage, IsImage}
 use Rattle.lie_reduce.proofs.CoefficientLemmas.{live_top, image_at}
 use Rattle.lie_reduce.proofs.PivotImages.{match_both}
-use Rattle.lie_reduce.proofs.reading.image_of.Goals as goal
+use Rattle.lie_reduce.proofs.images.image_of.Goals as goal
 
 pub power-requires-clause-within : goal.power-requires-clause-within
 power-requires-clause-within c = live_top c.args.field.now c.args.space.now c.args.r c.requires.live

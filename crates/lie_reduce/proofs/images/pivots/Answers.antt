@@ -14,7 +14,7 @@ use Rattle.lie_reduce.specs.Pivots.{sorted_entry, ArePivots, HasNoInverse, AreIm
 use Rattle.lie_reduce.proofs.CoefficientLemmas.{covering_for, known_square}
 use Rattle.lie_reduce.proofs.PivotForms.{sorted-table}
 use Rattle.lie_reduce.proofs.PivotImages.{sorted-elem, pivots-none, pivots-no-image, pivots-answer}
-use Rattle.lie_reduce.proofs.reading.pivots.Goals as goal
+use Rattle.lie_reduce.proofs.images.pivots.Goals as goal
 
 pub pivots_of-requires : goal.pivots_of-requires
 pivots_of-requires c =

@@ -2,7 +2,7 @@ use Rattle.std.proofs.Common.{◌≡◌, ◌∙◌, ◌+◌, suc, sym, ap, subst
 use Rattle.std.specs.Prelude.{pos, MatchOption}
 use Rattle.lie_reduce.specs.Pivots.{AreImages, IsImage, HasNoImage}
 use Rattle.lie_reduce.proofs.PivotImages.{one_image_more}
-use Rattle.lie_reduce.proofs.reading.images_of.Goals as goal
+use Rattle.lie_reduce.proofs.images.images_of.Goals as goal
 
 pub loop-k-preserved : goal.loop-k-preserved
 loop-k-preserved c =

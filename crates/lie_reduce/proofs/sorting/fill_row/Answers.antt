@@ -2,7 +2,7 @@ use Rattle.std.proofs.Common.{◌∙◌, ◌<◌, ap₂, arith}
 use Rattle.lie_ring.specs.Matrices.{with_entry}
 use Rattle.lie_mat.specs.PartLemmas.{partial-step}
 use Rattle.lie_reduce.specs.Pivots.{sorted_entry}
-use Rattle.lie_reduce.proofs.reading.fill_row.Goals as goal
+use Rattle.lie_reduce.proofs.sorting.fill_row.Goals as goal
 
 pub loop-j-preserved : goal.loop-j-preserved
 loop-j-preserved c =
