@@ -15,6 +15,3 @@ mod rows;
 mod steps;
 
 pub use matrices::Dense;
-
-#[cfg(test)]
-mod tests;

@@ -11,7 +11,7 @@
 //! `specs/Evaluation.antt` for the value at elements t and u of a finite field; a value at elements
 //! that are not 0 is the image by `Evaluate`, a homomorphism. `specs/Laws.antt` has the laws that
 //! `laws` publishes, and the other files of `specs` their proofs. The crate stands on `lie_field` and
-//! `lie_ring`, and its tests on `lie_mat`.
+//! `lie_ring`.
 #![tactic(auto)]
 
 mod differences;
@@ -30,6 +30,3 @@ pub use laws::{
     polynomials_are_coefficients,
 };
 pub use poly::Poly;
-
-#[cfg(test)]
-mod tests;
