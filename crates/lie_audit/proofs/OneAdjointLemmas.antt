@@ -19,7 +19,7 @@ use Rattle.lie_const.specs.StructureConstants.{Table, StandsFor, coeffs_of, same
 use Rattle.lie_const.specs.CommutatorTerms.{factorial}
 use Rattle.lie_const.specs.Modules.{Module, IsModule, dimension, divided_powers, divided_power, top}
 use Rattle.lie_const.specs.Adjoint.{RootVector, adjoint_dimension, bracket, IsAdjointOf}
-use Rattle.lie_const.specs.Signs.{SignTable, sign_entry}
+use Rattle.lie_const.specs.Signs.{SignTable, sign_entry, HasSignCount}
 use Rattle.lie_const.proofs.Norms.{cancel}
 use Rattle.lie_const.proofs.Unique.{unique}
 use Rattle.lie_weight.proofs.BasisLemmas.{basis_cases}
@@ -27,7 +27,6 @@ use Rattle.lie_weight.proofs.PowerLemmas.{power_entry, bracket_at, power-next}
 use Rattle.lie_weight.proofs.SmallLemmas.{factorial-positive, adjoint_dim}
 use Rattle.lie_weight.proofs.UniqueLemmas.{one_module}
 use Rattle.lie_audit.specs.SignAnswers.{AreTestedSigns}
-use Rattle.lie_audit.specs.OneAdjoint.{HasSignCount}
 
 -- ---- two tables give the same powers
 module _ (d : RootDatum) (loaded : IsLoaded d) (n m : Table) (stands : StandsFor d n) (also : StandsFor d m) (r : ℤ) (number : IsNumber d r) where

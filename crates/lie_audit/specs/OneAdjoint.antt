@@ -1,20 +1,16 @@
 -- A datum has one adjoint module, and one table of the signs on a module.
 -- Source: Carter, Simple Groups of Lie Type, 4.2 (the structure constants are determined by their values on extraspecial pairs).
 -- Own: the statements.
-use Rattle.std.specs.Prelude.{◌≡◌, ◌*◌, length}
+use Rattle.std.specs.Prelude.{◌≡◌}
 use Rattle.lie_datum.specs.RootList.{RootDatum, IsLoaded}
 use Rattle.lie_const.specs.Modules.{Module}
 use Rattle.lie_const.specs.Adjoint.{IsAdjointOf}
-use Rattle.lie_const.specs.Signs.{SignTable}
+use Rattle.lie_const.specs.Signs.{SignTable, HasSignCount}
 use Rattle.lie_audit.specs.SignAnswers.{AreTestedSigns}
 
 -- adjoint modules of one datum are equal, whatever the tables of constants they are made with
 abbrev pub OneAdjoint : Type 0
 OneAdjoint = (d : RootDatum) (v w : Module) → IsLoaded d → IsAdjointOf d v → IsAdjointOf d w → v ≡ w
-
--- the table has one sign for each simple index and each root
-abbrev pub HasSignCount : SignTable → Type 0
-HasSignCount t = length t.signs ≡ t.rank * (2 * t.positive)
 
 -- tables of the signs of one module are equal
 abbrev pub OneSignTable : Type 0

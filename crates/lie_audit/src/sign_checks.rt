@@ -6,9 +6,8 @@ ghost use Rattle.lie_datum.specs.RootDatum.{IsSimpleIndex};
 ghost use Rattle.lie_datum.specs.RootList.{IsNumber};
 ghost use Rattle.lie_const.specs.Modules.{dimension, IsModule};
 ghost use Rattle.lie_const.specs.Adjoint.{adjoint_dimension, IsAdjointOf};
-ghost use Rattle.lie_const.specs.Signs.{sign_entry};
+ghost use Rattle.lie_const.specs.Signs.{sign_entry, HasSignCount};
 ghost use Rattle.lie_weight.specs.Laws.{HasSmallMatrices};
-ghost use Rattle.lie_audit.specs.OneAdjoint.{HasSignCount};
 ghost use Rattle.lie_audit.specs.SignAnswers.{IsSignFault, AreTestedSigns};
 ghost use Rattle.lie_audit.specs.SignParts.{AreTested, IsAsked, IsSign, entry_bound};
 

@@ -63,6 +63,10 @@ pub record IsSignTable (d : RootDatum) (t : SignTable) : Type 0 where
   pub rank : t.rank ≡ rank d.base
   pub positive : t.positive ≡ length d.positive
 
+-- the table has one sign for each simple index and each root
+abbrev pub HasSignCount : SignTable → Type 0
+HasSignCount t = length t.signs ≡ t.rank * (2 * t.positive)
+
 -- the list has a member for each simple index and each root, each 1 or -1
 pub record IsSignList (rank positive : ℕ) (signs : List ℤ) : Type 0 where
   pub count : length signs ≡ rank * (2 * positive)

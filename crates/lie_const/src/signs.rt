@@ -3,7 +3,7 @@
 ghost use Rattle.std.specs.Prelude.{◌≡◌, ◌≤◌, ◌<◌, ◌+◌, ◌-◌, ◌*◌, ◌⊎◌, pos, negsuc, unsigned_abs, length};
 ghost use Rattle.lie_datum.specs.RootDatum.{rank};
 ghost use Rattle.lie_datum.specs.Numbers.{place};
-ghost use Rattle.lie_const.specs.Signs.{IsSignList, eta_of};
+ghost use Rattle.lie_const.specs.Signs.{HasSignCount, IsSignList, eta_of};
 
 use lie_datum::{Datum, RootId};
 use std::marker::Model;
@@ -40,6 +40,13 @@ impl Signs {
             positive: datum.m(),
             signs: table,
         }
+    }
+
+    /// A table has one sign for each simple index and each root.
+    pub fn counted(&self)
+        ensures { HasSignCount self.now }
+    {
+        let _ = &self.rank;
     }
 
     /// The sign of i, which counts from 1, and s.

@@ -7,9 +7,8 @@ use Rattle.lie_datum.proofs.SimplesFirst.{simples_first_holds}
 use Rattle.lie_const.specs.ConstantTables.{ConstantTable, LoadsConstants, value_of}
 use Rattle.lie_const.specs.Modules.{Module}
 use Rattle.lie_const.specs.Adjoint.{IsAdjoint}
-use Rattle.lie_const.specs.Signs.{SignTable, AreSigns, eta_of, sign_entry}
+use Rattle.lie_const.specs.Signs.{SignTable, AreSigns, eta_of, sign_entry, HasSignCount}
 use Rattle.lie_letters.specs.Braids.{HasBraids, IsFirstBadBraid}
-use Rattle.lie_audit.specs.OneAdjoint.{HasSignCount}
 use Rattle.lie_audit.specs.SignAnswers.{AreTestedSigns}
 use Rattle.lie_audit.specs.declared.faults.BraidFault.{BraidFault}
 use Rattle.lie_audit.proofs.AnswerLemmas.{Agree, bad_braid_same}

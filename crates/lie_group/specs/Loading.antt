@@ -14,10 +14,9 @@ use Rattle.lie_const.specs.declared.faults.ConstFault.TheVariants as const_fault
 use Rattle.lie_const.specs.ConstantTables.{ConstantTable, LoadsConstants, IsSameTable}
 use Rattle.lie_const.specs.Modules.{Module}
 use Rattle.lie_const.specs.Adjoint.{IsAdjointOf}
-use Rattle.lie_const.specs.Signs.{AreSigns, IsFirstBadSign, sign_entry}
+use Rattle.lie_const.specs.Signs.{AreSigns, IsFirstBadSign, sign_entry, HasSignCount}
 use Rattle.lie_letters.specs.Braids.{IsFirstBadBraid}
 use Rattle.lie_letters.specs.SignedFrames.{SignedFrame, IsLawfulSigned}
-use Rattle.lie_audit.specs.OneAdjoint.{HasSignCount}
 use Rattle.lie_audit.specs.declared.faults.SignFault.{SignFault}
 use Rattle.lie_audit.specs.declared.faults.SignFault.TheVariants as sign_fault
 use Rattle.lie_audit.specs.declared.faults.BraidFault.{BraidFault}

@@ -13,7 +13,6 @@ ghost use Rattle.lie_bruhat.specs.Products.{IsProduct, IsInverse};
 ghost use Rattle.lie_identities.specs.Audit.{Audits, HasLightWeights};
 ghost use Rattle.lie_identities.specs.Audited.{audited_module};
 ghost use Rattle.lie_audit.specs.WordMatrix.{word_matrix as matrix_of_word};
-ghost use Rattle.lie_group.specs.Loading.{IsFrameOf};
 ghost use Rattle.lie_group.specs.Groups.{IsAuditedFor, IsGroup, LoadsGroup};
 
 use crate::carriers::{audited_carrier, test_covering};
@@ -48,9 +47,10 @@ impl Group {
     /// The group of a frame, which is kept in it; or the first fault of its carrier, of the audit of the carrier, or of
     /// its covering.
     pub fn load(alloc: Global, frame: Frame) -> Result<Group, LoadFault>
-        requires { IsFrameOf frame.field frame.datum frame }
         ensures { LoadsGroup frame result }
     {
+        frame.lawful();
+        frame.counted();
         let carrier = audited_carrier(alloc, &frame)?;
         test_covering(&frame, &carrier)?;
         Ok(Group { frame, carrier })

@@ -104,7 +104,7 @@ fn unit(axis: usize) -> Vector
 }
 
 /// A multiple of a weight less the unit vector of an axis, which counts from 1.
-fn less_axis(times: u8, weight: &Vector, axis: usize) -> Vector
+pub fn less_axis(times: u8, weight: &Vector, axis: usize) -> Vector
     requires weight { IsWithin 1000000 weight.now }
     requires times { times ≤ 8 }
     requires axis { (1 ≤ axis) × (axis ≤ 8) }

@@ -36,7 +36,7 @@ mod steps;
 
 pub use audited::Audited;
 pub use auditing::audit;
-pub use covering::CoverFault;
+pub use covering::{CoverFault, less_axis};
 pub use faults::AuditFault;
 pub use laws::{
     adjoint_is_light, carrier_is_light, carriers_cover_axes, one_audit_answer, orbit_is_light,

@@ -19,7 +19,7 @@ mod vectors;
 
 pub use faults::OrbitFault;
 pub use laws::{lowers_one_way, orbits_are_one_list, orbits_have_one_size, small_sums_vanish};
-pub use lowering::lower;
+pub use lowering::{first_high, lower, lowered_by};
 pub use minuscule::first_large_pairing;
 pub use orbits::orbit;
 pub use vectors::less_multiple;

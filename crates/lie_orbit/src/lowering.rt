@@ -10,7 +10,7 @@ use crate::vectors::less_multiple;
 use lie_datum::{Datum, RootId, Vector, pairing};
 
 /// The first root that pairs with a weight to 2 or more, if there is one.
-fn first_high(datum: &Datum, weight: &Vector) -> Option<RootId>
+pub fn first_high(datum: &Datum, weight: &Vector) -> Option<RootId>
     requires { IsWithin (25 * 10 ^ 31) weight.now }
     ensures { MatchOption result (IsLow datum.now weight.now) (IsFirstHigh datum.now weight.now) }
 {
@@ -26,7 +26,7 @@ fn first_high(datum: &Datum, weight: &Vector) -> Option<RootId>
 }
 
 /// The weight less a root, half as often as the root pairs with it.
-fn lowered_by(datum: &Datum, weight: &Vector, r: RootId) -> Vector
+pub fn lowered_by(datum: &Datum, weight: &Vector, r: RootId) -> Vector
     requires number { IsNumber datum.now r }
     requires high { IsHighRoot datum.now weight.now r }
     requires few { coroot_pairing datum.now weight.now r ≤ℤ pos (10 ^ 32) }
