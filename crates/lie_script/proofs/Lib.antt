@@ -7,5 +7,6 @@ pub mod Steps
 pub mod Elements
 pub mod AcceptedLemmas
 pub mod FormTextLemmas
+pub mod LinesLemmas
 pub mod CallerLemmas
 pub mod WorkedExamples

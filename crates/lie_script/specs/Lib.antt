@@ -1,5 +1,6 @@
 pub mod Fields
 pub mod LineFields
+pub mod Lines
 pub mod Checks
 pub mod Numbers
 pub mod Letters

@@ -1,6 +1,7 @@
 //! Lines of a script: what a line says or its first fault, and the texts of numbers, refusals and forms.
 //!
-//! `read_line` makes a `Line`, and is the only call that looks at the bytes of one. Contracts cite
+//! `Lines` cuts a script into lines, one piece after another. `read_line` makes a `Line`, and is the only
+//! call that looks at what the bytes of one say. Contracts cite `specs/Lines.antt` (what is kept of a line),
 //! `specs/Reading.antt` (a line as its word and fields, and the order of the checks),
 //! `specs/Kinds.antt` (the checks of each kind of line), `specs/Letters.antt` (words),
 //! `specs/Setting.antt` (the field and the datum that a line is read with), `specs/Texts.antt` and
@@ -19,6 +20,7 @@ mod kinds;
 mod laws;
 mod letters;
 mod line;
+mod lines;
 mod module_kind;
 mod modules;
 mod names;
@@ -34,6 +36,7 @@ pub use kept::{Numbers, Text};
 pub use keyword::Keyword;
 pub use laws::accepted_lines_fit;
 pub use line::Line;
+pub use lines::{Fed, Lines};
 pub use names::{Names, NoNames};
 pub use reading::read_line;
 pub use sizes::{Sizes, Wants};

@@ -1,8 +1,7 @@
 -- Told bytes, one step after another.
-use Rattle.std.proofs.Common.{◌≡◌, ℕ, ◌<◌, List, [], ◌++◌, length, Option, Some, None, refl, ap, sym, ◌∙◌, append_assoc, append-nil, length-append, arith}
-use Rattle.std.proofs.Common.{Bool, true, eqb}
-use Rattle.std.proofs.lemmas.Bool.{eqb-true}
-use Rattle.std.proofs.lemmas.List.{nil_from_length}
+use Rattle.std.proofs.Common.{◌≡◌, ℕ, ◌<◌, List, [], ◌++◌, length, Option, Some, None, refl, ap, sym, append_assoc, append-nil, length-append, arith}
+use Rattle.std.proofs.Common.{Bool, true, false, ◌≢◌, ◌↔◌, ◌∷◌}
+use Rattle.std.proofs.lemmas.Bool.{iff_false}
 use Rattle.std.specs.Option.{IfSome}
 use Rattle.lie_kit.specs.Streams.{after_bytes, with_bytes}
 
@@ -23,6 +22,10 @@ pub had_more : (old : Option (List ℕ)) (bytes : List ℕ) (new : Option (List 
 had_more old bytes None n is more = rw is tt
 had_more old bytes (Some xs) n is more = rw is (let long : n < length (bytes ++ xs) = rw (length-append bytes xs) (omega arith) in long)
 
--- a list that the test finds empty
-pub empty_from : (xs : List ℕ) (b : Bool) → b ≡ eqb (length xs) 0 → b ≡ true → xs ≡ []
-empty_from xs b is none = nil_from_length xs (eqb-true (length xs) 0 (sym is ∙ none))
+-- a list of which the test says that nothing is there
+pub none-from : (b : Bool) (xs : List ℕ) → ((b ≡ true) ↔ (xs ≢ [])) → b ≡ false → xs ≡ []
+none-from b [] iff none = refl
+none-from b (x ∷ xs) iff none = absurd (iff_false iff none (λ e. absurd cc))
+
+pub some-from : (b : Bool) (xs : List ℕ) → ((b ≡ true) ↔ (xs ≢ [])) → b ≡ true → xs ≢ []
+some-from b xs iff some = iff.0 some

@@ -3,12 +3,15 @@
 --
 --   left, left'    what the source told to come, at the call and at the return
 --   old, new       what the sink told as written, at the call and at the return
-use Rattle.std.specs.Prelude.{◌≡◌, ◌⊎◌, ℕ, ◌+◌, ◌<◌, ◌≤◌, if◌then◌else◌, List, [], ◌∷◌, length, Option, Some, None, codes, bytes_eq}
+use Rattle.std.specs.Prelude.{◌≡◌, ◌⊎◌, ℕ, ◌+◌, ◌<◌, ◌≤◌, if◌then◌else◌, List, [], ◌∷◌, ◌++◌, length, Option, Some, None, codes, bytes_eq}
 use Rattle.std.specs.Option.{IfSome}
 use Rattle.lie_kit.specs.Streams.{Rose, after_bytes, with_bytes, IsSpent}
-use Rattle.lie_session.specs.Output.{IsOutput, BeginsOutput}
+use Rattle.lie_session.specs.Lines.{lines_of, IsCutAtLastLf}
+use Rattle.lie_session.specs.Output.{RepliesTo, bytes_of, IsOutput, AreFirstReplies, BeginsOutput}
+use Rattle.lie_session.specs.State.{State, fresh}
 use Rattle.lie_session.specs.declared.mode.Mode.{Mode}
 use Rattle.lie_session.specs.declared.mode.Mode.TheVariants.{Run, Check}
+use Rattle.lie_session.specs.declared.reply.Reply.{Reply}
 use Rattle.lie_session.specs.declared.status.Status.{Status}
 use Rattle.lie_session.specs.declared.status.Status.TheVariants.{Done, Refused, Usage, LoadRefused, ReadFault, WriteFault, NoMemory, TooLong}
 
@@ -42,16 +45,49 @@ pub record IsRead (left : Option (List ℕ)) (input : List ℕ) (left' : Option 
 abbrev pub ReadAndWrote : (left left' old new : Option (List ℕ)) → (List ℕ → List ℕ → Type 0) → Type 0
 ReadAndWrote left left' old new P = (input : List ℕ) × IsRead left input left' × GrewBy old new (P input)
 
+-- these bytes within the limit were taken, and what was written has P of them
+abbrev pub TookAndWrote : (left left' old new : Option (List ℕ)) → (List ℕ → List ℕ → Type 0) → Type 0
+TookAndWrote left left' old new P = (taken : List ℕ) × Gave left taken left' × (length taken ≤ input_limit) × GrewBy old new (P taken)
+
+-- as many bytes as the limit were taken, and one more; what was written has P of the first of them
+abbrev pub PassedAndWrote : (left left' old new : Option (List ℕ)) → (List ℕ → List ℕ → Type 0) → Type 0
+PassedAndWrote left left' old new P = (taken : List ℕ) × (b : ℕ) × Gave left (taken ++ b ∷ []) left' × (length taken ≡ input_limit) × GrewBy old new (P taken)
+
+-- exactly the replies to the whole lines among the bytes, in order, up to where the session rests: up to and with the first fatal one,
+-- or that of `load` where no more are asked for
+pub record WritesWholeLines (mode : Mode) (taken out : List ℕ) : Type 0 where
+  pub whole : List ℕ
+  pub rest : List ℕ
+  pub ends : IsCutAtLastLf taken whole rest
+  pub replies : List Reply
+  pub last : State
+  pub replied : RepliesTo mode fresh 0 (lines_of whole) replies last
+  pub written : out ≡ bytes_of replies
+
+-- a prefix of the replies to the first of the whole lines among the bytes
+pub record BeginsWholeLines (mode : Mode) (taken out : List ℕ) : Type 0 where
+  pub whole : List ℕ
+  pub rest : List ℕ
+  pub ends : IsCutAtLastLf taken whole rest
+  pub replies : List Reply
+  pub first : AreFirstReplies mode whole replies
+  pub missing : List ℕ
+  pub written : bytes_of replies ≡ out ++ missing
+
+-- writing stopped with a prefix of the replies written: before the end of the input, or when it was read to its end
+abbrev pub StoppedWriting : Mode → (left left' old new : Option (List ℕ)) → Type 0
+StoppedWriting mode left left' old new = TookAndWrote left left' old new (BeginsWholeLines mode) ⊎ ReadAndWrote left left' old new (BeginsOutput mode)
+
 -- The cause of a status, by what was read and written.
 abbrev pub Cause : Mode → (left left' old new : Option (List ℕ)) → Status → Type 0
 Cause mode left left' old new Done = ReadAndWrote left left' old new (λ input out. IsOutput mode input out Done)
 Cause mode left left' old new Refused = ReadAndWrote left left' old new (λ input out. IsOutput mode input out Refused)
 Cause mode left left' old new LoadRefused = ReadAndWrote left left' old new (λ input out. IsOutput mode input out LoadRefused)
 Cause mode left left' old new Usage = ⊥
-Cause mode left left' old new ReadFault = ((taken : List ℕ) × Gave left taken left' × (length taken ≤ input_limit)) × (new ≡ old)
-Cause mode left left' old new TooLong = ((taken : List ℕ) × Gave left taken left' × (length taken ≡ input_limit + 1)) × (new ≡ old)
-Cause mode left left' old new WriteFault = ReadAndWrote left left' old new (BeginsOutput mode)
-Cause mode left left' old new NoMemory = (new ≡ old) ⊎ ReadAndWrote left left' old new (BeginsOutput mode)
+Cause mode left left' old new ReadFault = TookAndWrote left left' old new (WritesWholeLines mode)
+Cause mode left left' old new TooLong = PassedAndWrote left left' old new (WritesWholeLines mode)
+Cause mode left left' old new WriteFault = StoppedWriting mode left left' old new
+Cause mode left left' old new NoMemory = StoppedWriting mode left left' old new
 
 -- the same of words that ask for nothing: nothing is read or written
 abbrev pub CauseOf : Option Mode → (left left' old new : Option (List ℕ)) → Status → Type 0
@@ -78,7 +114,7 @@ abbrev pub Complete : Mode → (left old new : Option (List ℕ)) (read read' wr
 Complete mode left old new read read' write write' status =
     IfSome left (λ input. length input ≤ input_limit → ¬ Rose read read' → ¬ Rose write write' → Completes mode input old new status)
 
--- where the source tells more than the limit and its count doesn't rise, the input is too long
+-- where the source tells more than the limit and its count doesn't rise, the input is too long, unless writing or memory fails first
 abbrev pub Exceeds : Option (List ℕ) → (read read' : ℕ) → Status → Type 0
 Exceeds left read read' status =
-    IfSome left (λ input. input_limit < length input → ¬ Rose read read' → (status ≡ TooLong) ⊎ (status ≡ NoMemory))
+    IfSome left (λ input. input_limit < length input → ¬ Rose read read' → (status ≡ TooLong) ⊎ (status ≡ NoMemory) ⊎ (status ≡ WriteFault))

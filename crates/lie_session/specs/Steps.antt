@@ -1,32 +1,22 @@
 -- What the steps of a run leave: reading, writing, and one reply.
 -- For proofs: no public clause cites it.
 -- Own.
-use Rattle.std.specs.Prelude.{◌≡◌, ◌⊎◌, ℕ, ◌+◌, ◌≤◌, List, ◌++◌, length, Option, Result, Ok, Err}
+use Rattle.std.specs.Prelude.{◌≡◌, ◌≢◌, ◌⊎◌, ℕ, ◌+◌, ◌≤◌, false, List, ◌++◌, length, take, Option, Result, Ok, Err}
 use Rattle.lie_kit.specs.Streams.{Rose, with_bytes}
-use Rattle.lie_session.specs.State.{State}
+use Rattle.lie_session.specs.State.{State, fresh}
 use Rattle.lie_session.specs.Replies.{Replies, RepliesAtEnd}
-use Rattle.lie_session.specs.Output.{IsOutput, BeginsOutput}
-use Rattle.lie_session.specs.Runs.{Gave, GrewBy, input_limit}
+use Rattle.lie_script.specs.Lines.{kept_limit}
+use Rattle.lie_session.specs.Lines.{lines_of, IsCutAtLastLf}
+use Rattle.lie_session.specs.Output.{rests, RepliesTo, bytes_of, IsOutput, BeginsOutput}
+use Rattle.lie_session.specs.Runs.{Gave, GrewBy, BeginsWholeLines, Cause, ReadCounts, WriteCounts, input_limit}
 use Rattle.lie_session.specs.declared.mode.Mode.{Mode}
+use Rattle.lie_session.specs.declared.mode.Mode.TheVariants.{Check}
 use Rattle.lie_session.specs.declared.reply.Reply.{Reply}
 use Rattle.lie_session.specs.declared.status.Status.{Status}
 use Rattle.lie_session.specs.declared.status.Status.TheVariants.{Done, Refused, Usage, LoadRefused, ReadFault, WriteFault, NoMemory, TooLong}
-use Rattle.lie_session.specs.declared.input.ReadStop.{ReadStop}
-use Rattle.lie_session.specs.declared.input.ReadStop.TheVariants.{Fault as ReadFailed, NoMemory as ReadMemory, TooLong as PastLimit}
+use Rattle.lie_session.specs.declared.talk.Talk.{Talk}
 use Rattle.lie_session.specs.declared.output.WriteStop.{WriteStop}
 use Rattle.lie_session.specs.declared.output.WriteStop.TheVariants.{Fault as WriteFailed, NoMemory as WriteMemory}
-
--- what was read before reading stopped
-abbrev pub Stopped : Option (List ℕ) → Option (List ℕ) → ReadStop → Type 0
-Stopped left left' ReadFailed = (taken : List ℕ) × Gave left taken left' × (length taken ≤ input_limit)
-Stopped left left' ReadMemory = Unit {0}
-Stopped left left' PastLimit = (taken : List ℕ) × Gave left taken left' × (length taken ≡ input_limit + 1)
-
--- the count rose only at a fault
-abbrev pub StopCounts : ℕ → ℕ → ReadStop → Type 0
-StopCounts before now ReadFailed = Rose before now
-StopCounts before now ReadMemory = now ≡ before
-StopCounts before now PastLimit = now ≡ before
 
 -- the sink grew by a prefix of these bytes
 abbrev pub GrewByPrefix : Option (List ℕ) → List ℕ → Option (List ℕ) → Type 0
@@ -71,3 +61,67 @@ Replied mode old input new TooLong = ⊥
 abbrev pub stop_status : WriteStop → Status
 stop_status WriteFailed = WriteFault
 stop_status WriteMemory = NoMemory
+
+-- The bytes seen so far are replied to: their whole lines have their replies, as far as the session goes, and these are written. Of the bytes
+-- behind them the front is kept. In `check` no reply was a refusal that the session counts.
+pub record Progress (mode : Mode) (seen : List ℕ) (talk : Talk) (old now : Option (List ℕ)) : Type 0 where
+  pub whole : List ℕ
+  pub rest : List ℕ
+  pub ends : IsCutAtLastLf seen whole rest
+  pub replies : List Reply
+  pub replied : RepliesTo mode fresh 0 (lines_of whole) replies talk.session
+  pub written : now ≡ with_bytes old (bytes_of replies)
+  pub waits : rests mode talk.session ≡ false → (talk.lines ≡ take kept_limit rest) × (talk.number ≡ length (lines_of whole))
+  pub few : talk.number ≤ length seen
+  pub unrefused : mode ≡ Check → talk.session.refusals ≡ 0
+
+-- all lines of the input have their replies, as far as the session goes
+pub record AllReplied (mode : Mode) (input : List ℕ) (talk : Talk) (old now : Option (List ℕ)) : Type 0 where
+  pub replies : List Reply
+  pub replied : RepliesTo mode fresh 0 (lines_of input) replies talk.session
+  pub written : now ≡ with_bytes old (bytes_of replies)
+  pub counted : rests mode talk.session ≡ false → talk.number ≡ length (lines_of input)
+  pub unrefused : mode ≡ Check → talk.session.refusals ≡ 0
+
+-- the sink's count of faults where writing stopped
+abbrev pub StopCounts : ℕ → ℕ → WriteStop → Type 0
+StopCounts before now WriteFailed = Rose before now
+StopCounts before now WriteMemory = now ≡ before
+
+-- a piece was replied to, or writing stopped in it
+abbrev pub Heard : Mode → List ℕ → (talk talk' : Talk) → (now now' : Option (List ℕ)) → (before later : ℕ) → Result (Unit {0}) WriteStop → Type 0
+Heard mode piece talk talk' now now' before later (Ok _) =
+    ((seen : List ℕ) (old : Option (List ℕ)) → Progress mode seen talk old now → Progress mode (seen ++ piece) talk' old now') × (later ≡ before)
+Heard mode piece talk talk' now now' before later (Err stop) =
+    ((seen : List ℕ) (old : Option (List ℕ)) → Progress mode seen talk old now → GrewBy old now' (BeginsWholeLines mode (seen ++ piece))) × StopCounts before later stop
+
+-- the last line was replied to where it has no LF, or writing stopped in its reply
+abbrev pub HeardLast : Mode → (talk talk' : Talk) → (now now' : Option (List ℕ)) → (before later : ℕ) → Result (Unit {0}) WriteStop → Type 0
+HeardLast mode talk talk' now now' before later (Ok _) =
+    ((seen : List ℕ) (old : Option (List ℕ)) → Progress mode seen talk old now → AllReplied mode seen talk' old now') × (later ≡ before)
+HeardLast mode talk talk' now now' before later (Err stop) =
+    ((seen : List ℕ) (old : Option (List ℕ)) → Progress mode seen talk old now → GrewBy old now' (BeginsOutput mode seen)) × StopCounts before later stop
+
+-- what waited and the end of the input were replied to, as far as the session goes, or writing stopped
+abbrev pub Finished : Mode → Talk → (now now' : Option (List ℕ)) → (before later : ℕ) → Status → Type 0
+Finished mode talk now now' before later status =
+    ((seen : List ℕ) (old : Option (List ℕ)) → Progress mode seen talk old now → Replied mode old seen now' status × (mode ≡ Check → status ≢ Refused))
+    × WriteCounts before later status
+
+-- what a run leaves: the cause of its status, and the counts of faults; in `check` no status tells of a counted refusal
+pub record Ran (mode : Mode) (left left' old new : Option (List ℕ)) (reads reads' writes writes' : ℕ) (status : Status) : Type 0 where
+  pub asked : status ≢ Usage
+  pub cause : Cause mode left left' old new status
+  pub read : ReadCounts reads reads' status
+  pub written : WriteCounts writes writes' status
+  pub checked : mode ≡ Check → status ≢ Refused
+
+-- a piece of n bytes was replied to; or the run is over
+abbrev pub Turned : Mode → ℕ → (talk talk' : Talk) → (left left' now now' : Option (List ℕ)) → (read read' write write' : ℕ) → Result ℕ Status → Type 0
+Turned mode taken talk talk' left left' now now' read read' write write' (Ok n) =
+    (piece : List ℕ) × Gave left piece left' × (length piece ≡ n) × (1 ≤ n) × (taken + n ≤ input_limit)
+    × ((seen : List ℕ) (old : Option (List ℕ)) → Progress mode seen talk old now → Progress mode (seen ++ piece) talk' old now')
+    × (read' ≡ read) × (write' ≡ write)
+Turned mode taken talk talk' left left' now now' read read' write write' (Err status) =
+    (seen : List ℕ) (old : Option (List ℕ)) (first : Option (List ℕ)) → Progress mode seen talk old now → Gave first seen left → length seen ≡ taken
+    → Ran mode first left' old now' read read' write write' status

@@ -23,6 +23,7 @@ mod reply;
 mod session;
 mod stage;
 mod status;
+mod talk;
 
 pub use mode::Mode;
 pub use program::lie;

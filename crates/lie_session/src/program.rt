@@ -1,39 +1,22 @@
 //! The run of the program.
-ghost use Rattle.std.specs.Prelude.{◌≡◌, ◌≢◌, ◌≤◌, ◌↔◌, false, length, map, Some, None, IfSome};
+ghost use Rattle.std.specs.Prelude.{◌≡◌, ◌≢◌, ◌+◌, ◌<◌, ◌≤◌, ◌^◌, ◌↔◌, false, [], map, Some, None, IfSome};
 ghost use Rattle.std.specs.String.{string_bytes};
 ghost use Rattle.lie_session.specs.Output.{FieldsAreSized, DataAreLoaded};
 ghost use Rattle.lie_session.specs.OneOutput.{OneOutputUpToCollect, OneOutput};
 ghost use Rattle.lie_session.specs.Printed.{FormsAreJoined, EqualRepliesDecideWords, SameDecidesWords};
 ghost use Rattle.lie_session.specs.Loaded.{GroupsAreLoaded, MatricesAreProducts, JoinedWordsHaveOneMatrix};
-ghost use Rattle.lie_session.specs.Runs.{mode_of, input_limit, Cause, CauseOf, ReadCounts, WriteCounts, Complete, Exceeds};
-ghost use Rattle.lie_session.specs.Steps.{stop_status, Answered, AnsweredAtEnd, Replied};
+ghost use Rattle.lie_session.specs.Runs.{mode_of, input_limit, CauseOf, ReadCounts, WriteCounts, Complete, Exceeds};
+ghost use Rattle.lie_session.specs.Steps.{stop_status, AnsweredAtEnd, Finished, Turned, Ran};
 ghost use Rattle.lie_session.specs.State.{fresh, ended_status};
 
-use crate::cutting::first_line;
-use crate::input::{ReadStop, read_all};
+use crate::input::{LIMIT, PIECE, room};
 use crate::mode::{Mode, asked};
 use crate::output::{WriteStop, write_all};
 use crate::session::Session;
 use crate::status::Status;
-use lie_kit::{Sink, Source};
+use crate::talk::Talk;
+use lie_kit::{Pull, Sink, Source};
 use std::alloc::Global;
-
-/// Replies to one line.
-fn reply_to<K: Sink>(
-    alloc: Global,
-    session: &mut Session,
-    number: u64,
-    line: &[u8],
-    sink: &mut K,
-) -> Result<(), WriteStop>
-    requires { session.old.ended ≡ false }
-    ensures { Answered session.old number line.now session.new (K.written sink.old) (K.faults sink.old) result (K.written sink.new) (K.faults sink.new) }
-{
-    match session.line(alloc, number, line) {
-        Ok(reply) => write_all(sink, reply.bytes.bytes()),
-        Err(_) => Err(WriteStop::NoMemory),
-    }
-}
 
 /// Replies to the end of the input.
 fn reply_to_end<K: Sink>(
@@ -75,69 +58,88 @@ fn status(session: &Session) -> Status
     }
 }
 
-/// Replies to an input that was read to its end, in a session that has read nothing.
-fn reply_in<K: Sink>(
-    alloc: Global,
-    mode: Mode,
-    session: &mut Session,
-    input: &[u8],
-    sink: &mut K,
-) -> Status
-    requires fresh { session.old ≡ fresh }
-    requires within { length input.now ≤ input_limit }
-    ensures replied { Replied mode (K.written sink.old) input.now (K.written sink.new) result }
-    ensures counted { WriteCounts (K.faults sink.old) (K.faults sink.new) result }
-    ensures checked { mode ≡ Mode.Check → result ≢ Status.Refused }
+/// Replies to what waits, and to the end of the input.
+fn finish<K: Sink>(alloc: Global, mode: Mode, talk: &mut Talk, sink: &mut K) -> Status
+    requires few { talk.old.number + 1 < 2 ^ 64 }
+    ensures { Finished mode talk.old (K.written sink.old) (K.written sink.new) (K.faults sink.old) (K.faults sink.new) result }
 {
-    let mut rest = input;
-    let mut number: u64 = 0;
-    'lines: while !rest.is_empty() && !mode.rests(session) {
-        let (line, after) = first_line(rest);
-        number += 1;
-        if let Err(stop) = reply_to(alloc, session, number, line, sink) {
-            return stopped(stop);
-        }
-        rest = after;
-    }
-    if mode.rests(session) {
-        return status(session);
-    }
-    if let Err(stop) = reply_to_end(alloc, session, number, sink) {
+    if let Err(stop) = talk.hear_last(alloc, mode, sink) {
         return stopped(stop);
     }
-    status(session)
+    if mode.rests(&talk.session) {
+        return status(&talk.session);
+    }
+    if let Err(stop) = reply_to_end(alloc, &mut talk.session, talk.number, sink) {
+        return stopped(stop);
+    }
+    status(&talk.session)
 }
 
-/// Replies to an input that was read to its end.
-fn reply_all<K: Sink>(alloc: Global, mode: Mode, input: &[u8], sink: &mut K) -> Status
-    requires { length input.now ≤ input_limit }
-    ensures replied { Replied mode (K.written sink.old) input.now (K.written sink.new) result }
-    ensures counted { WriteCounts (K.faults sink.old) (K.faults sink.new) result }
-    ensures checked { mode ≡ Mode.Check → result ≢ Status.Refused }
+/// Asks for a piece, and replies to the lines that are whole with it: how many bytes came, or the status
+/// where the run is over.
+fn turn<S: Source, K: Sink>(
+    alloc: Global,
+    mode: Mode,
+    talk: &mut Talk,
+    taken: usize,
+    source: &mut S,
+    sink: &mut K,
+) -> Result<usize, Status>
+    requires few { talk.old.number ≤ taken }
+    requires limit { taken ≤ input_limit }
+    ensures { Turned mode taken talk.old talk.new (S.left source.old) (S.left source.new) (K.written sink.old) (K.written sink.new) (S.faults source.old) (S.faults source.new) (K.faults sink.old) (K.faults sink.new) result }
 {
-    let mut session = Session::new(alloc);
-    reply_in(alloc, mode, &mut session, input, sink)
+    let mut piece = [0u8; PIECE];
+    match source.pull(&mut piece[..room(taken)]) {
+        Pull::Took(count) => {
+            if taken == LIMIT {
+                return Err(Status::TooLong);
+            }
+            match talk.hear(alloc, mode, &piece[..count], sink) {
+                Ok(()) => Ok(count),
+                Err(stop) => Err(stopped(stop)),
+            }
+        }
+        Pull::End => Err(finish(alloc, mode, talk, sink)),
+        Pull::Failed => Err(Status::ReadFault),
+    }
 }
 
-/// Replies to the lines of the source as the mode says.
+/// Replies to each line of the source, as the mode says, before it asks for more, in a talk in which nothing
+/// was heard.
+fn run_in<S: Source, K: Sink>(
+    alloc: Global,
+    mode: Mode,
+    talk: &mut Talk,
+    source: &mut S,
+    sink: &mut K,
+) -> Status
+    requires fresh { talk.old ≡ record { session = fresh; lines = []; number = 0 } }
+    ensures { Ran mode (S.left source.old) (S.left source.new) (K.written sink.old) (K.written sink.new) (S.faults source.old) (S.faults source.new) (K.faults sink.old) (K.faults sink.new) result }
+{
+    let mut taken = 0;
+    for _turn in 0..LIMIT + 1 {
+        match turn(alloc, mode, talk, taken, source, sink) {
+            Ok(count) => taken += count,
+            Err(status) => return status,
+        }
+    }
+    unreachable!()
+}
+
+/// Replies to each line of the source.
 fn run<S: Source, K: Sink>(alloc: Global, mode: Mode, source: &mut S, sink: &mut K) -> Status
-    ensures asked { result ≢ Status.Usage }
-    ensures cause { Cause mode (S.left source.old) (S.left source.new) (K.written sink.old) (K.written sink.new) result }
-    ensures read { ReadCounts (S.faults source.old) (S.faults source.new) result }
-    ensures written { WriteCounts (K.faults sink.old) (K.faults sink.new) result }
-    ensures checked { mode ≡ Mode.Check → result ≢ Status.Refused }
+    ensures { Ran mode (S.left source.old) (S.left source.new) (K.written sink.old) (K.written sink.new) (S.faults source.old) (S.faults source.new) (K.faults sink.old) (K.faults sink.new) result }
 {
-    match read_all(alloc, source) {
-        Ok(input) => reply_all(alloc, mode, input.as_slice(), sink),
-        Err(ReadStop::Fault) => Status::ReadFault,
-        Err(ReadStop::NoMemory) => Status::NoMemory,
-        Err(ReadStop::TooLong) => Status::TooLong,
+    match Talk::new(alloc) {
+        Ok(mut talk) => run_in(alloc, mode, &mut talk, source, sink),
+        Err(_) => Status::NoMemory,
     }
 }
 
 /// Runs the program: with the word `run`, the lines of the source are replied to in order, up to and
 /// with the first fatal reply; with the word `check`, up to and with the reply to `load`, and later
-/// lines are read to the end and not looked at. The words are those of the command line without the
+/// lines are read to the end and not looked at. Each line is replied to as soon as it is whole. The words are those of the command line without the
 /// program's name. Want of memory comes whenever the allocator or the sink says so; no clause says when.
 pub fn lie<S: Source, K: Sink>(
     alloc: Global,

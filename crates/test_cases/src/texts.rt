@@ -1,6 +1,6 @@
 //! What no line of a script shows by itself; lines and their refusals stand in the program's transcripts.
 
-use lie_script::{Names, NoNames, Text, put_number};
+use lie_script::{Fed, Lines, Names, NoNames, Text, put_number};
 use std::alloc::Global;
 use std::process::Abort;
 
@@ -36,4 +36,16 @@ fn numbers_are_decimal(rt: HostRuntime) {
 fn a_text(rt: HostRuntime) {
     let bytes = Vec::from_slice(rt.alloc(), b"yes\n").expect(&rt, "memory");
     assert_eq!(rt; Text::of(bytes).bytes(), b"yes\n".as_slice());
+}
+
+#[test]
+fn a_line_in_two_pieces(rt: HostRuntime) {
+    let mut lines = Lines::new(rt.alloc()).expect(&rt, "memory");
+    assert!(rt; !lines.waiting());
+    assert_eq!(rt; lines.feed(b"ab"), Fed::Part);
+    assert_eq!(rt; lines.feed(b"c\nd"), Fed::Line(2));
+    assert_eq!(rt; lines.front(), b"abc".as_slice());
+    assert!(rt; lines.waiting());
+    lines.next();
+    assert_eq!(rt; lines.front(), b"".as_slice());
 }
