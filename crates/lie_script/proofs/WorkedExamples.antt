@@ -41,7 +41,7 @@ first_lines =
     (9 ∷ 35 ∷ 128 ∷ [], Ok line.Silent) ∷
     (codes "roots", Err (Bare fault.Unloaded)) ∷
     (codes "root 1", Err (Bare fault.Order)) ∷
-    (codes "row 1", Err (At fault.Command 1)) ∷
+    (codes "row 1", Err (Bare fault.Order)) ∷
     (codes "collect 1", Err (Bare fault.Order)) ∷
     []
 
