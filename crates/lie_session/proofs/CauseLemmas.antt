@@ -16,7 +16,7 @@ use Rattle.lie_session.specs.declared.status.Status.TheVariants.{Done, Refused, 
 use Rattle.lie_session.proofs.InputLemmas.{gave-more, one-byte, read-end}
 use Rattle.lie_session.proofs.LineLemmas.{lines-append}
 use Rattle.lie_session.proofs.ProgressLemmas.{replied_rested, replied_end, replied_stop, stop_end}
-use Rattle.lie_session.proofs.StatusLemmas.{not_refused}
+use Rattle.lie_session.proofs.StatusLemmas.{not_refused, check_unloaded, end_uncounted}
 use Rattle.lie_session.proofs.ToldLemmas.{with_none}
 
 -- the input was read to its end and replied to
@@ -273,6 +273,6 @@ pub finished_end : (mode : Mode) (talk talk' : Talk) (now mid new : Option (List
 finished_end mode talk talk' now mid new before between later next h live a = (
   λ seen old p.
       let all = h.0 seen old p in
-      (replied_end mode seen talk' old mid all live a.0 next new a.1 a.2, λ check. not_refused next (ap (λ (s : State). s.refusals) a.1.1 ∙ all.unrefused check)),
+      (replied_end mode seen talk' old mid all live a.0 next new a.1 a.2, λ check. not_refused next (end_uncounted talk'.session talk'.number a.0 next (check_unloaded talk'.session (subst (λ (m : Mode). rests m talk'.session ≡ false) check live)) a.1 ∙ all.unrefused check)),
   ended_counts before later next (a.3 ∙ h.1),
 )

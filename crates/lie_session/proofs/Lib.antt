@@ -8,7 +8,9 @@ pub mod StatusLemmas
 pub mod LoadedLemmas
 pub mod GroupLemmas
 pub mod OneWordLemmas
+pub mod OneReduction
 pub mod PrintedLemmas
+pub mod ReducedLemmas
 pub mod OneOutcome
 pub mod OneOutputLemmas
 pub mod ProgressLemmas

@@ -1,12 +1,14 @@
 -- What a script has brought in each state that it leads to.
-use Rattle.std.proofs.Common.{◌≡◌, ℕ, Bool, true, false, cond, List, [], ◌∷◌, ◌++◌, length, Option, Some, None, refl, sym, ap, ◌∙◌, subst, inl, inr, Result, Ok, Err}
-use Rattle.std.specs.Prelude.{⊤, ◌↔◌, MatchOption, IfOk, ℤ, bytes_eq, map, nat_abs}
+use Rattle.std.proofs.Common.{◌≡◌, ℕ, Bool, true, false, cond, List, [], ◌∷◌, ◌++◌, length, Option, Some, None, refl, sym, ap, ◌∙◌, subst, inl, inr, arith, length-append, Result, Ok, Err}
+use Rattle.std.specs.Prelude.{⊤, ◌↔◌, MatchOption, IfOk, ℤ, pos, negsuc, ◌+◌, ◌<◌, bytes_eq, map, nat_abs, nat_eq}
 use Rattle.std.specs.Bool.{MatchBool}
-use Rattle.std.specs.List.{AllByRecursion}
+use Rattle.std.specs.List.{All, AllByRecursion}
 use Rattle.std.specs.Map.{lookup}
 use Rattle.std.specs.Option.{IfSome, IsSome, IsSomeAnd, option_map, option_or}
 use Rattle.std.proofs.lemmas.Bool.{false≢true}
-use Rattle.std.proofs.lemmas.List.Elements.{All-from_recursion}
+use Rattle.std.proofs.lemmas.Bool.Decides.{nat_tests}
+use Rattle.std.proofs.lemmas.List.{length-map}
+use Rattle.std.proofs.lemmas.List.Elements.{All-from_recursion, recursion_from_All}
 use Rattle.std.proofs.lemmas.Map.Entries.{All-lookup}
 use Rattle.std.proofs.lemmas.Map.Made.{lookup-map_values}
 use Rattle.std.proofs.lemmas.Option.{MatchOption-at_some}
@@ -20,7 +22,7 @@ use Rattle.lie_datum.specs.RootList.{RootDatum, IsLoaded}
 use Rattle.lie_datum.specs.declared.faults.DatumFault.{DatumFault}
 use Rattle.lie_field.specs.FiniteField.{FiniteField}
 use Rattle.lie_field.specs.Faults.{IsWithinLimit, Loads as LoadsField}
-use Rattle.lie_field.specs.Quotient.{FieldData, field_data}
+use Rattle.lie_field.specs.Quotient.{FieldData, field_data, order}
 use Rattle.lie_field.specs.declared.faults.FieldFault.{FieldFault}
 use Rattle.lie_audit.proofs.EqualMatricesLemmas.{equal_matrices}
 use Rattle.lie_group.specs.Groups.{GroupData, MeetsFrame, LoadsGroup}
@@ -28,6 +30,8 @@ use Rattle.lie_group.specs.Loading.{MakesFrame}
 use Rattle.lie_group.specs.declared.faults.LoadFault.{LoadFault}
 use Rattle.lie_group.proofs.GroupLemmas.{carrier_meets}
 use Rattle.lie_identities.specs.Audit.{Audits}
+use Rattle.lie_identities.specs.Covers.{Covers, IsCovering}
+use Rattle.lie_identities.specs.declared.covering.CoverFault.{CoverFault}
 use Rattle.lie_identities.specs.declared.faults.AuditFault.{AuditFault}
 use Rattle.lie_letters.specs.GroupSpelled.{JoinedInGroup}
 use Rattle.lie_letters.specs.SignedFrames.{SignedFrame}
@@ -36,6 +40,7 @@ use Rattle.lie_reply.specs.Modules.{matrix_text}
 use Rattle.lie_ring.specs.Matrices.{Matrix}
 use Rattle.lie_script.specs.Accepted.{IsNewName, Fits}
 use Rattle.lie_script.specs.Names.{dimension_of}
+use Rattle.lie_script.specs.Numbers.{is_element}
 use Rattle.lie_script.specs.Reading.{reads}
 use Rattle.lie_script.specs.Texts.{refusal}
 use Rattle.lie_script.specs.declared.faults.Fault.{Fault}
@@ -47,20 +52,20 @@ use Rattle.lie_weight.specs.OrbitFaults.{LoadsOrbit}
 use Rattle.lie_weight.specs.declared.faults.ModuleFault.{ModuleFault}
 use Rattle.lie_session.specs.DatumLines.{DatumLines, opened, padded, with_root, with_coroot, is_whole, base_of}
 use Rattle.lie_session.specs.Faults.{Words, words_of}
-use Rattle.lie_session.specs.Held.{Setting, LoadedGroup}
+use Rattle.lie_session.specs.Held.{Setting, Block, LoadedGroup, begun, with_row, IsRow, IsBlockOf}
 use Rattle.lie_session.specs.Loaded.{IsBuilt, HasGroup, AnswersProduct, GroupsAreLoaded, MatricesAreProducts, JoinedWordsHaveOneMatrix}
 use Rattle.lie_session.specs.Named.{Named, module_of, listed_of, HasDistinctNames}
-use Rattle.lie_session.specs.Outcomes.{Outcome, quiet, answered, field_outcome, datum_outcome, group_outcome, audit_outcome, with_module, KeepsDatum, CollectsBy, LoadsBy, NamesModule, NamesMade, Leads}
+use Rattle.lie_session.specs.Outcomes.{Outcome, quiet, answered, field_outcome, datum_outcome, group_outcome, audit_outcome, cover_outcome, reduced_outcome, with_module, is_full, matrix_of, KeepsDatum, CollectsBy, LoadsBy, NamesModule, NamesMade, ReducesTo, GoesOn, Leads}
 use Rattle.lie_session.specs.Output.{RepliesTo, FieldsAreSized, DataAreLoaded}
 use Rattle.lie_session.specs.Replies.{next_count, over, Refuses, Accepts, Tells, Does, DoesRead, Replies, SaysLine}
-use Rattle.lie_session.specs.State.{State, fresh, field_of, datum_of, group_of, modules_of, is_loaded, wants_of, sizes_of}
+use Rattle.lie_session.specs.State.{State, fresh, field_of, datum_of, group_of, modules_of, is_loaded, dimension_of as module_dim, block_dim, dropped, wants_of, sizes_of}
 use Rattle.lie_session.specs.declared.mode.Mode.{Mode}
 use Rattle.lie_session.specs.declared.reply.Kind.TheVariants as kind
 use Rattle.lie_session.specs.declared.reply.Reply.{Reply}
 use Rattle.lie_session.specs.declared.stage.Stage.{Stage}
 use Rattle.lie_session.specs.declared.stage.Stage.TheVariants as stage
 use Rattle.lie_session.proofs.NamedLemmas.{all_more, distinct_none, distinct_more}
-use Rattle.lie_session.proofs.StageLemmas.{free_from}
+use Rattle.lie_session.proofs.StageLemmas.{free_from, no_block}
 use Rattle.lie_session.proofs.StatusLemmas.{kept_to}
 
 -- a stage that a script leads to: its field is within the limits, its datum meets the axioms, and a loaded group is one
@@ -105,6 +110,7 @@ group_reached f (Ok g) sized h = record {
   met = tt;
   found = tt;
   distinct = distinct_none;
+  block = tt;
 }
 group_reached f (Err why) sized h = tt
 
@@ -150,9 +156,10 @@ found_more modules name v free h =
           (free_from modules name free)
           ∙ ap (λ b. cond b (Some v) None) ((bytes_eq-Decides name name).1 refl)
 
--- a built module that meets the identities gets a new name
-named_reached : (g : LoadedGroup) (name : List ℕ) (v : Module) → HasGroup g → IsNewName (listed_of g.modules) name → IsBuilt g.frame v → MeetsFrame g.frame v → HasGroup (with_module g name v)
-named_reached g name v there new built meets = record {
+-- a built module that meets the identities gets a new name, outside of a block
+named_reached : (g : LoadedGroup) (name : List ℕ) (v : Module) → HasGroup g → g.block ≡ None → IsNewName (listed_of g.modules) name → IsBuilt g.frame v → MeetsFrame g.frame v
+    → HasGroup (with_module g name v)
+named_reached g name v there outside new built meets = record {
   sized = there.sized;
   frame = there.frame;
   carrier = there.carrier;
@@ -162,26 +169,139 @@ named_reached g name v there new built meets = record {
   met = all_more (λ e. MeetsFrame g.frame e.1) g.modules (name, v) there.met meets;
   found = found_more g.modules name v new.free there.found;
   distinct = distinct_more g.modules name v (free_from g.modules name new.free) there.distinct;
+  block = subst (λ (o : Option Block). IfSome o (IsBlockOf g.frame (with_module g name v).modules)) (sym outside) tt;
 }
 
-audited_reached : (g : LoadedGroup) (name : List ℕ) (v : Module) (x : Result Module AuditFault) → HasGroup g → IsNewName (listed_of g.modules) name → IsBuilt g.frame v
+audited_reached : (g : LoadedGroup) (name : List ℕ) (v : Module) (x : Result Module AuditFault) → HasGroup g → g.block ≡ None → IsNewName (listed_of g.modules) name → IsBuilt g.frame v
     → Audits g.frame.datum g.frame.constants (eta_of g.frame.signs) v x → IsReachedBy (audit_outcome g name x)
-audited_reached g name v (Ok u) there new built h =
-    named_reached g name u there new (subst (IsBuilt g.frame) (sym h.0) built) (subst (MeetsFrame g.frame) (sym h.0) h.1)
-audited_reached g name v (Err why) there new built h = tt
+audited_reached g name v (Ok u) there outside new built h =
+    named_reached g name u there outside new (subst (IsBuilt g.frame) (sym h.0) built) (subst (MeetsFrame g.frame) (sym h.0) h.1)
+audited_reached g name v (Err why) there outside new built h = tt
 
-module_reached : (g : LoadedGroup) (name : List ℕ) (v : Module) (r : Outcome) → HasGroup g → IsNewName (listed_of g.modules) name → IsBuilt g.frame v → NamesModule g name v r → IsReachedBy r
-module_reached g name v r there new built h = subst IsReachedBy (sym h.2) (audited_reached g name v h.0 there new built h.1)
+module_reached : (g : LoadedGroup) (name : List ℕ) (v : Module) (r : Outcome) → HasGroup g → g.block ≡ None → IsNewName (listed_of g.modules) name → IsBuilt g.frame v → NamesModule g name v r
+    → IsReachedBy r
+module_reached g name v r there outside new built h = subst IsReachedBy (sym h.2) (audited_reached g name v h.0 there outside new built h.1)
 
-orbit_reached : (g : LoadedGroup) (name : List ℕ) (w : List ℤ) (x : Result Module ModuleFault) (r : Outcome) → HasGroup g → IsNewName (listed_of g.modules) name → length w ≡ g.frame.datum.base.dim
-    → LoadsOrbit g.frame.datum (eta_of g.frame.signs) (padded w) x → NamesMade g name x r → IsReachedBy r
-orbit_reached g name w (Ok v) r there new long h names = module_reached g name v r there new (inr (w, long, h)) names
-orbit_reached g name w (Err why) r there new long h names = subst IsReachedBy (sym names) tt
+orbit_reached : (g : LoadedGroup) (name : List ℕ) (w : List ℤ) (x : Result Module ModuleFault) (r : Outcome) → HasGroup g → g.block ≡ None → IsNewName (listed_of g.modules) name
+    → length w ≡ g.frame.datum.base.dim → LoadsOrbit g.frame.datum (eta_of g.frame.signs) (padded w) x → NamesMade g name x r → IsReachedBy r
+orbit_reached g name w (Ok v) r there outside new long h names = module_reached g name v r there outside new (inr (w, long, h)) names
+orbit_reached g name w (Err why) r there outside new long h names = subst IsReachedBy (sym names) tt
 
 matrix_reached : (g : LoadedGroup) (text : Module → List ℕ) (o : Option Module) (r : Outcome) → HasGroup g
     → MatchOption o (r ≡ quiet (stage.Loaded g)) (λ v. r ≡ answered (stage.Loaded g) (text v)) → IsReachedBy r
 matrix_reached g text None r there h = subst IsReachedBy (sym h) there
 matrix_reached g text (Some v) r there h = subst IsReachedBy (sym h) there
+
+-- ---- blocks
+
+-- the group with another block
+pub with_block : (g : LoadedGroup) (o : Option Block) → HasGroup g → IfSome o (IsBlockOf g.frame g.modules) → HasGroup (record g { block = o })
+with_block g o there is = record {
+  sized = there.sized;
+  frame = there.frame;
+  carrier = there.carrier;
+  audited = there.audited;
+  covering = there.covering;
+  built = there.built;
+  met = there.met;
+  found = there.found;
+  distinct = there.distinct;
+  block = is;
+}
+
+-- the stage without its block
+pub dropped_reached : (at : Stage) → IsReached at → IsReached (dropped at)
+dropped_reached stage.Field there = there
+dropped_reached (stage.Datum F) there = there
+dropped_reached (stage.Lines F lines) there = there
+dropped_reached (stage.Load setting) there = there
+dropped_reached (stage.Loaded g) there = with_block g None there tt
+
+-- a module that covers has a basis vector
+covering_some : (g : LoadedGroup) (v : Module) → HasGroup g → IsCovering g.frame.field g.frame.datum v → 0 < dimension v
+covering_some g v there covers =
+    let first = covers.axes 1 (omega arith) there.frame.lawful.lawful.loaded.axioms.input.dim.0 in
+    let within = first.within in
+    omega (arith, within)
+
+covered_reached : (g : LoadedGroup) (name : List ℕ) (v : Module) (x : Result ⊤ CoverFault) → HasGroup g → module_of g.modules name ≡ Some v → Covers g.frame.field g.frame.datum v x
+    → IsReachedBy (cover_outcome g name x)
+covered_reached g name v (Ok u) there is covers =
+    with_block g (Some (begun name)) there (record { acted_on = v; named = is; covering = covers; rows = tt; few = covering_some g v there covers })
+covered_reached g name v (Err why) there is covers = tt
+
+begun_reached : (g : LoadedGroup) (name : List ℕ) (o : Option Module) (r : Outcome) → module_of g.modules name ≡ o → HasGroup g
+    → MatchOption o (r ≡ quiet (stage.Loaded g)) (λ v. (x : Result ⊤ CoverFault) × Covers g.frame.field g.frame.datum v x × (r ≡ cover_outcome g name x)) → IsReachedBy r
+begun_reached g name None r is there h = subst IsReachedBy (sym h) there
+begun_reached g name (Some v) r is there h = subst IsReachedBy (sym h.2) (covered_reached g name v h.0 there is h.1)
+
+-- elements of the field
+element_below : (q : ℕ) (a : ℤ) → is_element q a ≡ true → nat_abs a < q
+element_below q (pos n) h = grind (arith, h)
+element_below q (negsuc n) h = absurd (false≢true h)
+
+elements_below : (q : ℕ) (row : List ℤ) → AllByRecursion (λ a. is_element q a ≡ true) row → AllByRecursion (λ a. a < q) (map nat_abs row)
+elements_below q [] h = tt
+elements_below q (a ∷ row) h = (element_below q a h.0, elements_below q row h.1)
+
+-- a row that was read is one of the field
+pub row_of : (F : FiniteField) (n : ℕ) (row : List ℤ) → length row ≡ n → All (λ a. is_element (order F.given) a ≡ true) row → IsRow F n (map nat_abs row)
+row_of F n row long within =
+    (length-map row nat_abs ∙ long, elements_below (order F.given) row (recursion_from_All (λ a. is_element (order F.given) a ≡ true) row within))
+
+-- one more of fewer than n, which are not n
+missing_more : (k n m : ℕ) → nat_eq k n ≡ false → k ≡ m + 1 → m < n → k < n
+missing_more k n m apart is few = grind (arith, nat_tests, apart, is, few)
+
+-- a block that a row joins
+module _ (g : LoadedGroup) (b : Block) (row : List ℤ) (v : Module) where
+  grown_count : length (with_row b row).rows ≡ length b.rows + 1
+  grown_count = length-append b.rows (map nat_abs row ∷ [])
+
+  -- all rows are rows of the field
+  pub grown_rows : AllByRecursion (IsRow g.frame.field (dimension v)) b.rows → IsRow g.frame.field (dimension v) (map nat_abs row)
+      → AllByRecursion (IsRow g.frame.field (dimension v)) (with_row b row).rows
+  grown_rows rows last = all_more (IsRow g.frame.field (dimension v)) b.rows (map nat_abs row) rows last
+
+  -- where a row is missing still, the block is one
+  grown_reached : IsCovering g.frame.field g.frame.datum v → module_of g.modules b.name ≡ Some v → AllByRecursion (IsRow g.frame.field (dimension v)) b.rows → length b.rows < dimension v
+      → IsRow g.frame.field (dimension v) (map nat_abs row) → is_full v (with_row b row) ≡ false → IsBlockOf g.frame g.modules (with_row b row)
+  grown_reached covers is rows few last missing =
+      record { acted_on = v; named = is; covering = covers; rows = grown_rows rows last; few = missing_more (length (with_row b row).rows) (dimension v) (length b.rows) missing grown_count few }
+
+reduced_reached : (g : LoadedGroup) (text : Option (List ℕ)) → HasGroup g → IsReachedBy (reduced_outcome g text)
+reduced_reached g (Some text) there = with_block g None there tt
+reduced_reached g None there = tt
+
+goes_reached : (g : LoadedGroup) (b : Block) (v : Module) (full : Bool) (r : Outcome) → HasGroup g → (full ≡ false → IsBlockOf g.frame g.modules b)
+    → MatchBool full (ReducesTo g v (matrix_of (dimension v) b.rows) r) (r ≡ quiet (stage.Loaded (record g { block = Some b }))) → IsReachedBy r
+goes_reached g b v true r there kept h = subst IsReachedBy (sym h.2) (reduced_reached g h.0 there)
+goes_reached g b v false r there kept h = subst IsReachedBy (sym h) (with_block g (Some b) there (kept refl))
+
+the_module : (u v : Module) → Some u ≡ Some v → u ≡ v
+the_module u v e = cc
+
+-- the module of a block that is read is the one of its name
+pub module_is : (g : LoadedGroup) (b : Block) (v : Module) (is : IsBlockOf g.frame g.modules b) → module_of g.modules b.name ≡ Some v → is.acted_on ≡ v
+module_is g b v is named = the_module is.acted_on v (sym is.named ∙ named)
+
+row_reached : (g : LoadedGroup) (row : List ℤ) (o : Option Block) (r : Outcome) → g.block ≡ o → HasGroup g → length row ≡ block_dim g.modules g.block
+    → All (λ a. is_element (order g.frame.field.given) a ≡ true) row
+    → MatchOption o (r ≡ quiet (stage.Loaded g)) (λ b. MatchOption (module_of g.modules b.name) (r ≡ quiet (stage.Loaded g)) (λ v. GoesOn g v (with_row b row) r)) → IsReachedBy r
+row_reached g row None r at there long within h = subst IsReachedBy (sym h) there
+row_reached g row (Some b) r at there long within h = by_module (module_of g.modules b.name) refl h where
+  block_is : IsBlockOf g.frame g.modules b
+  block_is = subst (λ (o : Option Block). IfSome o (IsBlockOf g.frame g.modules)) at there.block
+
+  by_module : (o : Option Module) → module_of g.modules b.name ≡ o → MatchOption o (r ≡ quiet (stage.Loaded g)) (λ v. GoesOn g v (with_row b row) r) → IsReachedBy r
+  by_module None is h = subst IsReachedBy (sym h) there
+  by_module (Some v) is h =
+      let same : block_is.acted_on ≡ v = module_is g b v block_is is in
+      let n : length row ≡ dimension v = long ∙ ap (λ (z : Option Block). block_dim g.modules z) at ∙ ap module_dim is in
+      goes_reached g (with_row b row) v (is_full v (with_row b row)) r there
+      (grown_reached g b row v (subst (IsCovering g.frame.field g.frame.datum) same block_is.covering) is
+      (subst (λ (u : Module). AllByRecursion (IsRow g.frame.field (dimension u)) b.rows) same block_is.rows) (subst (λ (u : Module). length b.rows < dimension u) same block_is.few)
+      (row_of g.frame.field (dimension v) row n within)) h
 
 leads_reached : (at : Stage) (said : Line) (r : Outcome) → IsReached at → Fits (wants_of at) (sizes_of at) (listed_of (modules_of at)) said → Leads at said r → IsReachedBy r
 leads_reached stage.Field (line.Field p k coeffs g) r there fits h = subst IsReachedBy (sym h.2) (field_reached (field_data p (map nat_abs coeffs) g) h.0 h.1)
@@ -197,9 +317,11 @@ leads_reached (stage.Loaded g) (line.Inv w) r there fits h = subst IsReachedBy (
 leads_reached (stage.Loaded g) line.Roots r there fits h = subst IsReachedBy (sym h) there
 leads_reached (stage.Loaded g) (line.Constant p q) r there fits h = subst IsReachedBy (sym h.2) there
 leads_reached (stage.Loaded g) (line.Weyl indices) r there fits h = subst IsReachedBy (sym h.2) there
-leads_reached (stage.Loaded g) (line.Adjoint name) r there fits h = module_reached g name h.0 r there fits.1 (inl h.1) h.2
-leads_reached (stage.Loaded g) (line.Orbit name w) r there fits h = orbit_reached g name w h.0 r there fits.1 fits.2 h.1 h.2
+leads_reached (stage.Loaded g) (line.Adjoint name) r there fits h = module_reached g name h.0 r there (no_block g.block fits.0) fits.1 (inl h.1) h.2
+leads_reached (stage.Loaded g) (line.Orbit name w) r there fits h = orbit_reached g name w h.0 r there (no_block g.block fits.0) fits.1 fits.2 h.1 h.2
 leads_reached (stage.Loaded g) (line.Matrix name w) r there fits h = matrix_reached g (λ v. matrix_text (word_matrix g.frame.field v w)) (module_of g.modules name) r there h
+leads_reached (stage.Loaded g) (line.Reduce name) r there fits h = begun_reached g name (module_of g.modules name) r refl there h
+leads_reached (stage.Loaded g) (line.Row row) r there fits h = row_reached g row g.block r refl there fits.1 fits.2 h
 leads_reached at _ r there fits h = subst IsReachedBy (sym h) there
 
 -- ---- what a reply leaves
@@ -208,8 +330,8 @@ accepted_is : (after : State) (text : Option (List ℕ)) (reply : Reply) (next :
 accepted_is after None reply next h = h.1
 accepted_is after (Some text) reply next h = h.1
 
-refused_reached : (loaded : Bool) (s next : State) → IsReached s.stage → next ≡ cond loaded (record s { refusals = next_count s.refusals }) (over s) → IsReached next.stage
-refused_reached true s next there is = subst (λ (t : State). IsReached t.stage) (sym is) there
+refused_reached : (loaded : Bool) (s next : State) → IsReached s.stage → next ≡ cond loaded (record s { stage = dropped s.stage; refusals = next_count s.refusals }) (over s) → IsReached next.stage
+refused_reached true s next there is = subst (λ (t : State). IsReached t.stage) (sym is) (dropped_reached s.stage there)
 refused_reached false s next there is = subst (λ (t : State). IsReached t.stage) (sym is) tt
 
 worded_reached : (s : State) (n : ℕ) (words : Option Words) (reply : Reply) (next : State) → IsReached s.stage → IsSomeAnd words (λ w. Refuses s (refusal n w.0 w.1) reply next) → IsReached next.stage
@@ -275,7 +397,7 @@ some_mapped f None h = absurd (false≢true h)
 some_mapped f (Some a) h = (a, refl)
 
 -- a name that is listed has a module
-named_module : (modules : Named) (name : List ℕ) → IsSome (dimension_of (listed_of modules) name) → (v : Module) × (module_of modules name ≡ Some v)
+pub named_module : (modules : Named) (name : List ℕ) → IsSome (dimension_of (listed_of modules) name) → (v : Module) × (module_of modules name ≡ Some v)
 named_module modules name h =
     some_mapped dimension (module_of modules name) (subst IsSome (lookup-map_values dimension (λ other. bytes_eq other name) modules) h)
 
@@ -287,19 +409,20 @@ at_some P Q o a is h = subst (λ z. MatchOption z P Q) (sym is) h
 abbrev loaded_state : LoadedGroup → ℕ → Bool → State
 loaded_state g k ended = record { stage = stage.Loaded g; refusals = k; ended = ended }
 
-module _ (g : LoadedGroup) (there : HasGroup g) (k : ℕ) (ended : Bool) (n : ℕ) (bytes name : List ℕ) (w : List Letter) where
+module _ (g : LoadedGroup) (there : HasGroup g) (name : List ℕ) where
   -- a module that has a name is built
-  built_of_name : (v : Module) → module_of g.modules name ≡ Some v → IsBuilt g.frame v
+  pub built_of_name : (v : Module) → module_of g.modules name ≡ Some v → IsBuilt g.frame v
   built_of_name v is =
       subst (λ o. IfSome o (IsBuilt g.frame)) is
       (All-lookup (IsBuilt g.frame) (λ other. bytes_eq other name) g.modules (All-from_recursion (λ e. IsBuilt g.frame e.1) g.modules there.built))
 
   -- and it meets the identities
-  met_of_name : (v : Module) → module_of g.modules name ≡ Some v → MeetsFrame g.frame v
+  pub met_of_name : (v : Module) → module_of g.modules name ≡ Some v → MeetsFrame g.frame v
   met_of_name v is =
       subst (λ o. IfSome o (MeetsFrame g.frame)) is
       (All-lookup (MeetsFrame g.frame) (λ other. bytes_eq other name) g.modules (All-from_recursion (λ e. MeetsFrame g.frame e.1) g.modules there.met))
 
+module _ (g : LoadedGroup) (there : HasGroup g) (k : ℕ) (ended : Bool) (n : ℕ) (bytes name : List ℕ) (w : List Letter) where
   -- the replies to the line are those of its module
   matrix_does : (v : Module) → module_of g.modules name ≡ Some v → reads (wants_of (stage.Loaded g)) (sizes_of (stage.Loaded g)) (listed_of g.modules) bytes ≡ Ok (line.Matrix name w)
       → (reply : Reply) (next : State) → Replies (loaded_state g k ended) n bytes reply next
@@ -331,8 +454,8 @@ module _ (g : LoadedGroup) (there : HasGroup g) (k : ℕ) (ended : Bool) (n : �
         word = λ c. fits.2 (frame_with g.frame.field g.frame.datum c) refl (record { d_is = refl; l_is = refl; m_is = refl }) there.frame.lawful.lawful.loaded;
         acted_on = found.0;
         named = found.1;
-        built = built_of_name found.0 found.1;
-        met = met_of_name found.0 found.1;
+        built = built_of_name g there name found.0 found.1;
+        met = met_of_name g there name found.0 found.1;
         answers = matrix_does found.0 found.1 said;
       }
 

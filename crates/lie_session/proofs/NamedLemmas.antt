@@ -1,6 +1,7 @@
 -- The named modules, as the entries of a table.
 use Rattle.std.proofs.Common.{◌≡◌, ℕ, Bool, true, false, cond, List, [], ◌∷◌, ◌++◌, Option, None, Some, refl, sym, ap, subst, ◌∙◌}
 use Rattle.std.proofs.lemmas.List.{map-append}
+use Rattle.std.proofs.lemmas.Map.Made.{lookup-map_values}
 use Rattle.std.specs.Prelude.{bytes_eq}
 use Rattle.std.specs.List.{AllByRecursion, IsDistinct}
 use Rattle.std.specs.Map.{lookup, keys_of}
@@ -11,16 +12,11 @@ use Rattle.indexmap.specs.IndexMap.{IndexMap, insert_entry}
 use Rattle.indexmap.proofs.CallerLemmas.{insert_entry-new}
 use Rattle.lie_const.specs.Modules.{Module}
 use Rattle.lie_identities.specs.Audited.{AuditedModule}
-use Rattle.lie_session.specs.Named.{Named, module_of, named_of, HasDistinctNames}
+use Rattle.lie_session.specs.Named.{Named, Audits, module_of, audits_of, named_of, audited_of, HasDistinctNames}
 
 -- the test of two keys
 abbrev pub same_key : Vec ℕ → Vec ℕ → Bool
 same_key key other = bytes_eq key.items other.items
-
--- a test comes before an image
-mapped_test : {A B : Type 0} (f : A → B) (test : Bool) (a : A) (o : Option A) → cond test (Some (f a)) (option_map f o) ≡ option_map f (cond test (Some a) o)
-mapped_test f true a o = refl
-mapped_test f false a o = refl
 
 -- no value has no image
 pub none_mapped : {A B : Type 0} (g : A → B) (o : Option A) → option_map g o ≡ None → o ≡ None
@@ -32,27 +28,30 @@ abbrev pub module_in : AuditedModule → Module
 module_in a = a.module
 
 -- a name has the module that the table has at its bytes
-pub named_module : (es : List (Vec ℕ × AuditedModule)) (name : List ℕ) → module_of (named_of es) name ≡ option_map module_in (lookup (λ key. bytes_eq name key.items) es)
-named_module [] name = refl
-named_module (e ∷ es) name =
-    ap (λ same. cond same (Some (module_in e.1)) (module_of (named_of es) name)) (nat_list_eq_equiv.symm e.0.items name)
-    ∙ ap (cond (bytes_eq name e.0.items) (Some (module_in e.1))) (named_module es name)
-    ∙ mapped_test module_in (bytes_eq name e.0.items) e.1 (lookup (λ key. bytes_eq name key.items) es)
+pub audited_found : (es : List (Vec ℕ × AuditedModule)) (name : List ℕ) → audited_of (audits_of es) name ≡ lookup (λ key. bytes_eq name key.items) es
+audited_found [] name = refl
+audited_found (e ∷ es) name =
+    ap (λ same. cond same (Some e.1) (audited_of (audits_of es) name)) (nat_list_eq_equiv.symm e.0.items name)
+    ∙ ap (cond (bytes_eq name e.0.items) (Some e.1)) (audited_found es name)
+
+-- the module of a name is the audited one
+pub named_module : (entries : Audits) (name : List ℕ) → module_of (named_of entries) name ≡ option_map module_in (audited_of entries name)
+named_module entries name = lookup-map_values module_in (λ other. bytes_eq other name) entries
 
 -- a new name stands behind the others
-pub named_last : {S : Type 0} (table : IndexMap (Vec ℕ) AuditedModule S) (key : Vec ℕ) (v : AuditedModule) → module_of (named_of table.entries) key.items ≡ None
-    → named_of (insert_entry same_key table.entries key v) ≡ named_of table.entries ++ (key.items, module_in v) ∷ []
-named_last table key v new =
-    ap named_of (insert_entry-new same_key table key v (none_mapped module_in (lookup (λ k. bytes_eq key.items k.items) table.entries) (sym (named_module table.entries key.items) ∙ new)))
-    ∙ map-append (λ e. (e.0.items, module_in e.1)) table.entries ((key, v) ∷ [])
+pub audits_last : {S : Type 0} (table : IndexMap (Vec ℕ) AuditedModule S) (key : Vec ℕ) (v : AuditedModule) → module_of (named_of (audits_of table.entries)) key.items ≡ None
+    → audits_of (insert_entry same_key table.entries key v) ≡ audits_of table.entries ++ (key.items, v) ∷ []
+audits_last table key v new =
+    let none = none_mapped module_in (audited_of (audits_of table.entries) key.items) (sym (named_module (audits_of table.entries) key.items) ∙ new) in
+    ap audits_of (insert_entry-new same_key table key v (sym (audited_found table.entries key.items) ∙ none)) ∙ map-append (λ e. (e.0.items, e.1)) table.entries ((key, v) ∷ [])
 
 -- the names of keys that differ differ
-pub distinct_named : (es : List (Vec ℕ × AuditedModule)) → IsDistinct same_key (keys_of es) → HasDistinctNames (named_of es)
+pub distinct_named : (es : List (Vec ℕ × AuditedModule)) → IsDistinct same_key (keys_of es) → HasDistinctNames (named_of (audits_of es))
 unfolding IsDistinct
 distinct_named [] distinct = tt
 distinct_named (e ∷ es) distinct = (apart es distinct.0, distinct_named es distinct.1) where
   apart : (fs : List (Vec ℕ × AuditedModule)) → AllByRecursion (λ key. same_key e.0 key ≡ false) (keys_of fs)
-      → AllByRecursion (λ other. bytes_eq e.0.items other ≡ false) (keys_of (named_of fs))
+      → AllByRecursion (λ other. bytes_eq e.0.items other ≡ false) (keys_of (named_of (audits_of fs)))
   apart [] h = tt
   apart (f ∷ fs) h = (h.0, apart fs h.1)
 

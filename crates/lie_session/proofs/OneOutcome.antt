@@ -1,6 +1,6 @@
 -- A line at one stage leads to one outcome, want of memory aside, up to constants that say the same and to forms of one word.
 use Rattle.std.proofs.Common.{◌≡◌, ◌≢◌, ℕ, Bool, true, false, List, [], ◌++◌, Option, Some, None, Result, Ok, Err, refl, sym, ap, ◌∙◌, subst, ◌⊎◌, inl, inr}
-use Rattle.std.specs.Prelude.{⊤, MatchOption, map, nat_abs}
+use Rattle.std.specs.Prelude.{⊤, MatchOption, ℤ, map, nat_abs}
 use Rattle.std.specs.Bool.{MatchBool}
 use Rattle.std.specs.Option.{IfSome, IsSome}
 use Rattle.std.proofs.lemmas.Bool.{false≢true}
@@ -20,7 +20,7 @@ use Rattle.lie_field.specs.Quotient.{FieldData, field_data, IsFieldData}
 use Rattle.lie_field.specs.declared.faults.FieldFault.{FieldFault}
 use Rattle.lie_field.specs.declared.faults.FieldFault.TheVariants as field_fault
 use Rattle.lie_field.proofs.FaultLemmas.{faults_once, field_has_no_fault}
-use Rattle.lie_group.specs.Groups.{GroupData, IsSameGroup, IsSameGroupAnswer}
+use Rattle.lie_group.specs.Groups.{GroupData, IsSameGroup, IsSameGroupAnswer, MeetsFrame}
 use Rattle.lie_group.specs.Loading.{MakesFrame, IsSameFrame}
 use Rattle.lie_group.specs.declared.faults.LoadFault.{LoadFault}
 use Rattle.lie_group.specs.declared.faults.LoadFault.TheVariants as load_fault
@@ -28,6 +28,8 @@ use Rattle.lie_group.proofs.OneFrame.{one_frame}
 use Rattle.lie_group.proofs.OneGroup.{one_group}
 use Rattle.lie_group.proofs.SameAudits.{meets_same, fault_same}
 use Rattle.lie_identities.specs.Audit.{Audits}
+use Rattle.lie_identities.specs.Covers.{Covers, IsCovering}
+use Rattle.lie_identities.specs.declared.covering.CoverFault.{CoverFault}
 use Rattle.lie_identities.specs.declared.faults.AuditFault.{AuditFault}
 use Rattle.lie_identities.specs.declared.faults.AuditFault.TheVariants as audit_fault
 use Rattle.lie_identities.proofs.OneAnswer.{one_audit_answer}
@@ -49,16 +51,17 @@ use Rattle.lie_weight.specs.declared.faults.ModuleFault.TheVariants as orbit_fau
 use Rattle.lie_weight.proofs.OneOrbitAnswer.{one_answer as one_orbit}
 use Rattle.lie_session.specs.DatumLines.{DatumLines, opened, padded, with_root, with_coroot, is_whole, base_of}
 use Rattle.lie_session.specs.Faults.{field_words, datum_words, load_words, module_words, audit_words, words_of}
-use Rattle.lie_session.specs.Held.{Setting, LoadedGroup}
+use Rattle.lie_session.specs.Held.{Setting, Block, LoadedGroup, begun, with_row, without_block, IsBlockOf}
 use Rattle.lie_session.specs.Loaded.{HasGroup}
 use Rattle.lie_session.specs.Named.{Named, module_of, listed_of}
-use Rattle.lie_session.specs.Outcomes.{Outcome, quiet, answered, field_outcome, datum_outcome, group_outcome, audit_outcome, with_module, KeepsDatum, PrintsForm, CollectsBy, LoadsBy, NamesModule, NamesMade, Leads}
+use Rattle.lie_session.specs.Outcomes.{Outcome, quiet, answered, field_outcome, datum_outcome, group_outcome, audit_outcome, cover_outcome, reduced_outcome, with_module, is_full, matrix_of, KeepsDatum, PrintsForm, CollectsBy, LoadsBy, NamesModule, NamesMade, ReducesTo, GoesOn, Leads}
 use Rattle.lie_session.specs.declared.faults.CallFault.TheVariants as call
 use Rattle.lie_session.specs.State.{field_of, datum_of, modules_of, wants_of, sizes_of}
 use Rattle.lie_session.specs.declared.faults.CallFault.TheVariants as call
 use Rattle.lie_session.specs.declared.stage.Stage.{Stage}
 use Rattle.lie_session.specs.declared.stage.Stage.TheVariants as stage
-use Rattle.lie_session.proofs.LoadedLemmas.{IsReached}
+use Rattle.lie_session.proofs.LoadedLemmas.{IsReached, met_of_name, module_is}
+use Rattle.lie_session.proofs.OneReduction.{one_cover, one_reduction}
 use Rattle.lie_session.proofs.OneWordLemmas.{with_constants, one_text, one_same_text, word_read}
 
 -- one stage, up to constants that say the same
@@ -187,7 +190,7 @@ group_told (Err why) a = group_err why (load_named why a)
 
 -- a group in which no module has a name
 abbrev without_modules : GroupData → LoadedGroup
-without_modules g = record { frame = g.frame; carrier = g.carrier.module; modules = [] }
+without_modules g = record { frame = g.frame; carrier = g.carrier.module; modules = []; block = None }
 
 -- groups that say the same make one stage
 same_groups : (g h : GroupData) → IsSameGroup g h → IsSameStage (stage.Loaded (without_modules g)) (stage.Loaded (without_modules h))
@@ -196,6 +199,7 @@ same_groups g h same =
       frame = record { field = same.frame.field i; datum = same.frame.datum i; constants = h.frame.constants; signs = same.frame.signs i };
       carrier = same.carrier i;
       modules = [];
+      block = None;
     } in
     subst (λ (x : LoadedGroup). IsSameStage (stage.Loaded (without_modules g)) (stage.Loaded x)) is (groups (without_modules g) h.frame.constants same.frame.constants)
 
@@ -333,9 +337,60 @@ module _ (g : LoadedGroup) (c : ConstantTable) (table : IsSameTable g.frame.datu
       → IsSameOutcome (stage.Loaded g) said r q
   form_once there here w r q x y = same_answer r q x.0 y.0 x.2 y.2 (one_text g c there here w x.0 y.0 x.1 y.1)
 
--- commands
+  -- the first fault of a module that does not cover is one
+  cover_same : (name : List ℕ) (x : Result ⊤ CoverFault) → IsSameOutcome (stage.Loaded g) said (cover_outcome g name x) (cover_outcome (with_constants g c) name x)
+  cover_same name (Ok u) = (groups (record g { block = Some (begun name) }) c table, tt)
+  cover_same name (Err why) = refl
+
+  begin_once : (name : List ℕ) (o : Option Module) (r q : Outcome)
+      → MatchOption o (r ≡ quiet (stage.Loaded g)) (λ v. (x : Result ⊤ CoverFault) × Covers g.frame.field g.frame.datum v x × (r ≡ cover_outcome g name x))
+      → MatchOption o (q ≡ quiet (stage.Loaded (with_constants g c))) (λ v. (x : Result ⊤ CoverFault) × Covers g.frame.field g.frame.datum v x × (q ≡ cover_outcome (with_constants g c) name x))
+      → IsSameOutcome (stage.Loaded g) said r q
+  begin_once name None r q a b = same_quiet r q a b
+  begin_once name (Some v) r q a b =
+      by_both (stage.Loaded g) said r q (cover_outcome g name a.0) (cover_outcome (with_constants g c) name b.0) a.2 b.2
+      (subst (λ z. IsSameOutcome (stage.Loaded g) said (cover_outcome g name a.0) (cover_outcome (with_constants g c) name z)) (one_cover g.frame.field g.frame.datum v a.0 b.0 a.1 b.1) (cover_same name a.0))
+
+  -- a matrix is reduced to one text, or to none
+  reduced_same : (t u : Option (List ℕ)) → t ≡ u → IsSameOutcome (stage.Loaded g) said (reduced_outcome g t) (reduced_outcome (with_constants g c) u)
+  reduced_same t u same = subst (λ z. IsSameOutcome (stage.Loaded g) said (reduced_outcome g t) (reduced_outcome (with_constants g c) z)) same (itself t) where
+    itself : (z : Option (List ℕ)) → IsSameOutcome (stage.Loaded g) said (reduced_outcome g z) (reduced_outcome (with_constants g c) z)
+    itself (Some text) = (groups (without_block g) c table, inl refl)
+    itself None = refl
+
+  -- a block that a row has joined is kept, or its matrix is reduced
+  goes_once : HasGroup g → HasGroup (with_constants g c) → (b : Block) (v : Module) (full : Bool) (r q : Outcome) → MeetsFrame g.frame v → MeetsFrame (with_constants g c).frame v
+      → IsCovering g.frame.field g.frame.datum v
+      → MatchBool full (ReducesTo g v (matrix_of (dimension v) b.rows) r) (r ≡ quiet (stage.Loaded (record g { block = Some b })))
+      → MatchBool full (ReducesTo (with_constants g c) v (matrix_of (dimension v) b.rows) q) (q ≡ quiet (stage.Loaded (record (with_constants g c) { block = Some b })))
+      → IsSameOutcome (stage.Loaded g) said r q
+  goes_once there here b v true r q meets other_meets covers x y =
+      by_both (stage.Loaded g) said r q (reduced_outcome g x.0) (reduced_outcome (with_constants g c) y.0) x.2 y.2
+      (reduced_same x.0 y.0 (one_reduction g c there here v (matrix_of (dimension v) b.rows) meets other_meets covers x.0 y.0 x.1 y.1))
+  goes_once there here b v false r q meets other_meets covers x y =
+      by_both (stage.Loaded g) said r q (quiet (stage.Loaded (record g { block = Some b }))) (quiet (stage.Loaded (record (with_constants g c) { block = Some b }))) x y
+      (groups (record g { block = Some b }) c table, tt)
+
+  row_once : HasGroup g → HasGroup (with_constants g c) → (row : List ℤ) (o : Option Block) (r q : Outcome) → g.block ≡ o
+      → MatchOption o (r ≡ quiet (stage.Loaded g)) (λ b. MatchOption (module_of g.modules b.name) (r ≡ quiet (stage.Loaded g)) (λ v. GoesOn g v (with_row b row) r))
+      → MatchOption o (q ≡ quiet (stage.Loaded (with_constants g c))) (λ b. MatchOption (module_of g.modules b.name) (q ≡ quiet (stage.Loaded (with_constants g c))) (λ v. GoesOn (with_constants g c) v (with_row b row) q))
+      → IsSameOutcome (stage.Loaded g) said r q
+  row_once there here row None r q at x y = same_quiet r q x y
+  row_once there here row (Some b) r q at x y = by_module (module_of g.modules b.name) refl x y where
+    block_is : IsBlockOf g.frame g.modules b
+    block_is = subst (λ (o : Option Block). IfSome o (IsBlockOf g.frame g.modules)) at there.block
+
+    by_module : (o : Option Module) → module_of g.modules b.name ≡ o
+        → MatchOption o (r ≡ quiet (stage.Loaded g)) (λ v. GoesOn g v (with_row b row) r)
+        → MatchOption o (q ≡ quiet (stage.Loaded (with_constants g c))) (λ v. GoesOn (with_constants g c) v (with_row b row) q) → IsSameOutcome (stage.Loaded g) said r q
+    by_module None is x y = same_quiet r q x y
+    by_module (Some v) is x y =
+        goes_once there here (with_row b row) v (is_full v (with_row b row)) r q (met_of_name g there b.name v is) (met_of_name (with_constants g c) here b.name v is)
+        (subst (IsCovering g.frame.field g.frame.datum) (module_is g b v block_is is) block_is.covering) x y
+
+-- commands, and rows of blocks
 loaded_once : (g : LoadedGroup) (c : ConstantTable) → IsSameTable g.frame.datum g.frame.constants c → (said : Line) (r q : Outcome) → HasGroup g → HasGroup (with_constants g c)
-    → Fits wants.Command (sizes_of (stage.Loaded g)) (listed_of g.modules) said → IsTold r → IsTold q
+    → Fits (wants_of (stage.Loaded g)) (sizes_of (stage.Loaded g)) (listed_of g.modules) said → IsTold r → IsTold q
     → Leads (stage.Loaded g) said r → Leads (stage.Loaded (with_constants g c)) said q → IsSameOutcome (stage.Loaded g) said r q
 loaded_once g c table (line.Form w) r q there here fits a b x y = form_once g c table (line.Form w) there here w r q x y
 loaded_once g c table (line.Mul w v) r q there here fits a b x y = form_once g c table (line.Mul w v) there here (w ++ v) r q x y
@@ -352,6 +407,8 @@ loaded_once g c table (line.Orbit name w) r q there here fits a b x y =
     made_once g c table (line.Orbit name w) name x.0 r q a b x.2 (subst (λ z. NamesMade (with_constants g c) name z q) is y.2)
 loaded_once g c table (line.Matrix name w) r q there here fits a b x y =
     matrix_once g c table (line.Matrix name w) (λ v. matrix_text (word_matrix g.frame.field v w)) (module_of g.modules name) r q x y
+loaded_once g c table (line.Reduce name) r q there here fits a b x y = begin_once g c table (line.Reduce name) name (module_of g.modules name) r q x y
+loaded_once g c table (line.Row row) r q there here fits a b x y = row_once g c table (line.Row row) there here row g.block r q refl x y
 loaded_once g c table said r q there here fits a b x y = same_quiet g c table said r q x y
 
 -- ---- any line

@@ -12,13 +12,14 @@ use Rattle.lie_script.specs.declared.faults.FaultName.TheVariants as fault
 use Rattle.lie_script.specs.declared.line.Line.{Line}
 use Rattle.lie_script.proofs.CallerLemmas.{accepted-fits}
 use Rattle.lie_session.specs.Faults.{Words, words_of}
+use Rattle.lie_session.specs.Held.{without_block}
 use Rattle.lie_session.specs.Lines.{lines_of}
 use Rattle.lie_session.specs.Named.{listed_of}
 use Rattle.lie_session.specs.OneOutput.{AreForms, AreAlike, AreAlikeOutputs, CollectsNothing, OneOutputUpToCollect, OneOutput}
 use Rattle.lie_session.specs.Outcomes.{Outcome, Leads}
 use Rattle.lie_session.specs.Output.{rests, RepliesTo, AreReplies, bytes_of, has, is_fatal, is_refused, status_of, IsOutput}
 use Rattle.lie_session.specs.Replies.{next_count, over, Refuses, Accepts, Tells, Does, DoesRead, Replies, RepliesAtEnd, SaysLine, line_refusal}
-use Rattle.lie_session.specs.State.{State, fresh, is_loaded, modules_of, wants_of, sizes_of}
+use Rattle.lie_session.specs.State.{State, fresh, is_loaded, modules_of, wants_of, sizes_of, may_end, dropped}
 use Rattle.lie_session.specs.declared.mode.Mode.{Mode}
 use Rattle.lie_session.specs.declared.mode.Mode.TheVariants.{Run, Check}
 use Rattle.lie_session.specs.declared.reply.Kind.{Kind}
@@ -61,22 +62,33 @@ rests_same : (mode : Mode) (s t : State) → IsSame s t → rests mode s ≡ res
 rests_same Run s t same = same.ended
 rests_same Check s t same = ap₂ ◌||◌ same.ended (loaded_same s.stage t.stage same.stages)
 
+dropped_same : (at to : Stage) → IsSameStage at to → IsSameStage (dropped at) (dropped to)
+dropped_same _ _ (equal at) = equal (dropped at)
+dropped_same _ _ (groups g c table) = groups (without_block g) c table
+
+ends_same : (at to : Stage) → IsSameStage at to → may_end at ≡ may_end to
+ends_same _ _ (equal at) = refl
+ends_same _ _ (groups g c table) = refl
+
 -- ---- one reply to a line
 
-refused_once : (loaded : Bool) (s t : State) (text : List ℕ) (a b : Reply) (next other : State) → IsSame s t
-    → (a ≡ record { kind = cond loaded kind.Refused kind.Fatal; bytes = text }) × (next ≡ cond loaded (record s { refusals = next_count s.refusals }) (over s))
-    → (b ≡ record { kind = cond loaded kind.Refused kind.Fatal; bytes = text }) × (other ≡ cond loaded (record t { refusals = next_count t.refusals }) (over t)) → IsOne a b next other
+-- a refusal, where it is known whether a group is loaded
+abbrev RefusesAs : Bool → State → List ℕ → Reply → State → Type 0
+RefusesAs loaded s text reply next =
+    (reply ≡ record { kind = cond loaded kind.Refused kind.Fatal; bytes = text }) × (next ≡ cond loaded (record s { stage = dropped s.stage; refusals = next_count s.refusals }) (over s))
+
+refused_once : (loaded : Bool) (s t : State) (text : List ℕ) (a b : Reply) (next other : State) → IsSame s t → RefusesAs loaded s text a next → RefusesAs loaded t text b other → IsOne a b next other
 refused_once true s t text a b next other same h k =
-    by_equations a b next other (record { kind = kind.Refused; bytes = text }) (record s { refusals = next_count s.refusals }) (record t { refusals = next_count t.refusals }) h.0 k.0 h.1 k.1
-    (record { stages = same.stages; refusals = ap next_count same.refusals; ended = same.ended })
+    by_equations a b next other (record { kind = kind.Refused; bytes = text }) (record s { stage = dropped s.stage; refusals = next_count s.refusals })
+    (record t { stage = dropped t.stage; refusals = next_count t.refusals }) h.0 k.0 h.1 k.1
+    (record { stages = dropped_same s.stage t.stage same.stages; refusals = ap next_count same.refusals; ended = same.ended })
 refused_once false s t text a b next other same h k =
     by_equations a b next other (record { kind = kind.Fatal; bytes = text }) (over s) (over t) h.0 k.0 h.1 k.1 (record { stages = equal stage.Field; refusals = same.refusals; ended = refl })
 
 refuses_once : (s t : State) (text : List ℕ) (a b : Reply) (next other : State) → IsSame s t → Refuses s text a next → Refuses t text b other → IsOne a b next other
 refuses_once s t text a b next other same h k =
     refused_once (is_loaded s.stage) s t text a b next other same h
-    (subst (λ z. (b ≡ record { kind = cond z kind.Refused kind.Fatal; bytes = text }) × (other ≡ cond z (record t { refusals = next_count t.refusals }) (over t)))
-    (sym (loaded_same s.stage t.stage same.stages)) k)
+    (subst (λ z. RefusesAs z t text b other) (sym (loaded_same s.stage t.stage same.stages)) k)
 
 -- two replies to the line: one, or answers with texts of forms
 abbrev AreSameReplies : Stage → Line → Reply → Reply → Type 0
@@ -205,9 +217,18 @@ one_run mode s t n (bytes ∷ lines) a b last end there here same h k =
           let more = on h.1 k.1 h.2 k.2 (reached_from s (n + 1) bytes h.0 h.1 there h.3) (reached_from t (n + 1) bytes k.0 k.1 here k.3) one.1 h.5 k.5 in
           ((h.0, k.0, h.1, h.2, k.2, h.3, one.0, h.4, k.4, more.0), more.1)
 
--- the reply of the end
-abbrev end_reply : Bool → ℕ → Reply
-end_reply loaded n = cond loaded (record { kind = kind.Silent; bytes = [] }) (record { kind = kind.Fatal; bytes = refusal n (name_of fault.End) [] })
+-- one reply of the end
+end_once : (last end : State) (n : ℕ) (a b : Reply) (next other : State) → IsSame last end → RepliesAtEnd last n a next → RepliesAtEnd end n b other → a ≡ b
+end_once last end n a b next other same h k = by_end (may_end last.stage) h (subst (λ z. AtEnd z end b other) (sym (ends_same last.stage end.stage same.stages)) k) where
+  AtEnd : Bool → State → Reply → State → Type 0
+  AtEnd ends s reply done =
+      MatchBool ends (Accepts (record s { ended = true }) None reply done) (Refuses (record s { ended = true }) (refusal n (name_of fault.End) []) reply done)
+
+  by_end : (ends : Bool) → AtEnd ends last a next → AtEnd ends end b other → a ≡ b
+  by_end true h k = h.0 ∙ sym k.0
+  by_end false h k =
+      (refuses_once (record last { ended = true }) (record end { ended = true }) (refusal n (name_of fault.End) []) a b next other
+      (record { stages = same.stages; refusals = same.refusals; ended = refl }) h k).0
 
 -- behind replies there is nothing, or the reply of the end
 one_end : (n : ℕ) (front back : List Reply) (last end : State) (a b : List Reply) (rest : Bool) → IsSame last end
@@ -215,7 +236,7 @@ one_end : (n : ℕ) (front back : List Reply) (last end : State) (a b : List Rep
     → MatchBool rest (b ≡ back) ((r : Reply) × (done : State) × RepliesAtEnd end n r done × (b ≡ back ++ r ∷ [])) → (tail : List Reply) × (a ≡ front ++ tail) × (b ≡ back ++ tail)
 one_end n front back last end a b true same h k = ([], h ∙ sym (append-nil front), k ∙ sym (append-nil back))
 one_end n front back last end a b false same h k =
-    (h.0 ∷ [], h.3, k.3 ∙ ap (λ (r : Reply). back ++ r ∷ []) (k.2.0 ∙ ap (λ z. end_reply z n) (sym (loaded_same last.stage end.stage same.stages)) ∙ sym h.2.0))
+    (h.0 ∷ [], h.3, k.3 ∙ ap (λ (r : Reply). back ++ r ∷ []) (sym (end_once last end n h.0 k.0 h.1 k.1 same h.2 k.2)))
 
 -- what two runs of a script are
 record AreSameRuns (mode : Mode) (input : List ℕ) (a b : List Reply) : Type 0 where

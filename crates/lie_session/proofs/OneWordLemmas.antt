@@ -49,7 +49,7 @@ with_constants g c = record g { frame = record g.frame { constants = c } }
 
 module _ (g : LoadedGroup) (c : ConstantTable) (there : HasGroup g) (here : HasGroup (with_constants g c)) where
   -- what a form is does not speak of the constants
-  form_for : (y : FormData) → IsForm (with_constants g c).frame y → IsForm g.frame y
+  pub form_for : (y : FormData) → IsForm (with_constants g c).frame y → IsForm g.frame y
   form_for y h = record { first = h.first; units = h.units; long = h.long; element = h.element; second = h.second; zeros = h.zeros }
 
   -- a word has one form

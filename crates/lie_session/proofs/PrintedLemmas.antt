@@ -1,5 +1,5 @@
 -- The replies to lines that ask for forms.
-use Rattle.std.proofs.Common.{◌≡◌, ℕ, Bool, true, false, cond, List, [], ◌++◌, Some, None, refl, sym, ap, ◌∙◌, subst, ◌⊎◌, inl, inr, Result, Ok, Err}
+use Rattle.std.proofs.Common.{◌≡◌, ℕ, Bool, true, false, cond, List, [], ◌++◌, Option, Some, None, refl, sym, ap, ◌∙◌, subst, ◌⊎◌, inl, inr, Result, Ok, Err}
 use Rattle.std.specs.Prelude.{◌↔◌}
 use Rattle.std.specs.Option.{IsSomeAnd}
 use Rattle.std.proofs.lemmas.Result.{IfOk-at_ok}
@@ -24,14 +24,14 @@ use Rattle.lie_script.specs.declared.line.Line.TheVariants as line
 use Rattle.lie_script.specs.declared.sizes.Wants.TheVariants as wants
 use Rattle.lie_script.proofs.CallerLemmas.{accepted-fits}
 use Rattle.lie_session.specs.Asked.{asked_word, TellsSame}
-use Rattle.lie_session.specs.Held.{Setting, LoadedGroup}
+use Rattle.lie_session.specs.Held.{Setting, Block, LoadedGroup}
 use Rattle.lie_session.specs.Loaded.{HasGroup}
 use Rattle.lie_session.specs.Named.{listed_of}
 use Rattle.lie_session.specs.Outcomes.{Outcome, answered, PrintsForm, CollectsBy, Leads}
 use Rattle.lie_session.specs.Printed.{Prints, AnswersForm, PrintsOrRefuses, CollectsForm, FormsAreJoined, EqualRepliesDecideWords, AnswersSame, SameDecidesWords}
 use Rattle.lie_session.specs.Output.{RepliesTo}
 use Rattle.lie_session.specs.Replies.{Accepts, Refuses, Tells, Does, DoesRead, Replies, SaysLine}
-use Rattle.lie_session.specs.State.{State, fresh, modules_of, wants_of, sizes_of}
+use Rattle.lie_session.specs.State.{State, fresh, modules_of, block_wants, wants_of, sizes_of}
 use Rattle.lie_session.specs.declared.faults.CallFault.TheVariants as call
 use Rattle.lie_session.specs.declared.mode.Mode.{Mode}
 use Rattle.lie_session.specs.declared.reply.Reply.{Reply}
@@ -97,7 +97,7 @@ no_command true h = absurd cc
 no_command false h = absurd cc
 
 -- the word that a command asks for is one of the group
-word_asked : (g : LoadedGroup) (said : Line) (w : List Letter) → HasGroup g → Fits wants.Command (sizes_of (stage.Loaded g)) (listed_of g.modules) said → asked_word g.frame.field said ≡ Some w
+word_asked : (g : LoadedGroup) (said : Line) (w : List Letter) → HasGroup g → Fits (wants_of (stage.Loaded g)) (sizes_of (stage.Loaded g)) (listed_of g.modules) said → asked_word g.frame.field said ≡ Some w
     → IsWordOver (unsigned g.frame) w
 word_asked g (line.Form v) w there fits is = subst (IsWordOver (unsigned g.frame)) (one_word v w is) (word_read g v there fits.1)
 word_asked g (line.Mul u v) w there fits is =
@@ -133,7 +133,7 @@ module _ (g : LoadedGroup) (there : HasGroup g) (k : ℕ) (ended : Bool) (n : �
     backward : (text : List ℕ) × TellsSame g.frame w v text × Accepts (state_at (stage.Loaded g) k ended) (Some text) reply next → Replies (state_at (stage.Loaded g) k ended) n bytes reply next
     backward p = record { told = subst (DoesRead (state_at (stage.Loaded g) k ended) n reply next) (sym says) (answered (stage.Loaded g) p.0, (p.0, p.1, refl), p.2) }
 
-  same_from : Fits wants.Command (sizes_of (stage.Loaded g)) (listed_of g.modules) (line.Same w v) → AnswersSame (state_at (stage.Loaded g) k ended) n bytes w v
+  same_from : Fits (wants_of (stage.Loaded g)) (sizes_of (stage.Loaded g)) (listed_of g.modules) (line.Same w v) → AnswersSame (state_at (stage.Loaded g) k ended) n bytes w v
   same_from fits = record {
     group = g;
     stage_is = refl;
@@ -199,9 +199,10 @@ collect_at (stage.Datum F) k ended n bytes w there fits says = absurd (clash fit
   clash e = absurd cc
 collect_at (stage.Lines F lines) k ended n bytes w there fits says = absurd (no_load _ fits.0)
 collect_at (stage.Load setting) k ended n bytes w there fits says = collect_from setting there k ended n bytes w says fits
-collect_at (stage.Loaded g) k ended n bytes w there fits says = absurd (clash fits.0) where
-  clash : wants.Command ≡ wants.Load → ⊥
-  clash e = absurd cc
+collect_at (stage.Loaded g) k ended n bytes w there fits says = absurd (clash g.block fits.0) where
+  clash : (o : Option Block) → block_wants o ≡ wants.Load → ⊥
+  clash None e = absurd cc
+  clash (Some b) e = absurd cc
 
 -- ---- in each state that a script leads to
 

@@ -396,7 +396,7 @@ output_end mode input talk old now all live reply next new r grew = (
     all.replies ++ reply ∷ [],
     ended_replies mode input talk old now all live reply next r,
     refl,
-    ap ended_status r.1 ∙ sym (status-end mode (lines_of input) all.replies talk.session talk.number reply next all.replied (live_from mode talk.session live) r),
+    sym (status-end mode (lines_of input) all.replies talk.session talk.number reply next all.replied (live_from mode talk.session live) r),
   ),
 )
 

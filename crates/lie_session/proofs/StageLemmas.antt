@@ -1,7 +1,7 @@
 -- What a stage tells a reader, and what a line that was read tells of the stage.
 use Rattle.std.proofs.Common.{◌≡◌, ◌≢◌, ℕ, Bool, true, false, cond, Option, Some, None, refl, sym, ap, ◌∙◌, subst, arith, Result, Ok, Err, get_or, List, pos, zero, suc, negsuc, nat_abs}
 use Rattle.std.specs.Prelude.{⊤, bytes_eq, length, replicate, unsigned_abs, ◌-◌, ◌≤◌, ◌||◌, nat_lt, MatchResult, IfOk, ℤ}
-use Rattle.std.specs.List.{All}
+use Rattle.std.specs.List.{All, AllByRecursion}
 use Rattle.std.specs.Option.{IfSome, IsSome, option_map}
 use Rattle.std.proofs.lemmas.Result.{IfOk-at_ok}
 use Rattle.std.proofs.lemmas.Int.{ints}
@@ -9,11 +9,13 @@ use Rattle.std.proofs.lemmas.List.Elements.{All-append, All-replicate, All-from_
 use Rattle.std.proofs.lemmas.Map.Entries.{All-lookup}
 use Rattle.std.proofs.lemmas.Map.Made.{lookup-map_values}
 use Rattle.lie_const.specs.CommutatorTerms.{IsPair}
-use Rattle.lie_const.specs.Modules.{Module, IsModule, dimension}
+use Rattle.lie_const.specs.Modules.{Module, dimension}
 use Rattle.lie_datum.specs.RootDatum.{IsWithin}
 use Rattle.lie_datum.specs.RootList.{RootDatum, IsNumber, IsLoaded}
 use Rattle.lie_field.specs.FiniteField.{FiniteField}
+use Rattle.lie_group.specs.Groups.{IsAuditedFor}
 use Rattle.lie_group.specs.Loading.{IsFrameOf}
+use Rattle.lie_identities.specs.Audited.{AuditedModule}
 use Rattle.lie_datum.proofs.NumberLemmas.{some_within}
 use Rattle.lie_datum.proofs.SignedRoots.{opposite_number}
 use Rattle.lie_audit.specs.WordMatrix.{frame_with, IsWordFor}
@@ -32,10 +34,10 @@ use Rattle.lie_script.specs.declared.line.Line.TheVariants as line
 use Rattle.lie_script.specs.declared.sizes.Wants.TheVariants as wants
 use Rattle.lie_script.proofs.CallerLemmas.{accepted-fits, answer-keeps}
 use Rattle.lie_session.specs.DatumLines.{padded}
-use Rattle.lie_session.specs.Held.{LoadedGroup, AreModules}
-use Rattle.lie_session.specs.Named.{Named, module_of, listed_of}
+use Rattle.lie_session.specs.Held.{Block, LoadedGroup}
+use Rattle.lie_session.specs.Named.{Named, Audits, module_of, audited_of, listed_of}
 use Rattle.lie_session.specs.Ready.{Commands, Ready}
-use Rattle.lie_session.specs.State.{field_of, datum_of, modules_of, is_loaded, wants_of, sizes_of}
+use Rattle.lie_session.specs.State.{field_of, datum_of, modules_of, is_loaded, block_wants, wants_of, sizes_of}
 use Rattle.lie_session.specs.declared.stage.Stage.{Stage}
 use Rattle.lie_session.specs.declared.stage.Stage.TheVariants as stage
 use Rattle.lie_session.proofs.NamedLemmas.{none_mapped}
@@ -97,11 +99,16 @@ free_from modules name h =
 pub listed_dimension : (modules : Named) (name : List ℕ) (o : Option Module) → o ≡ module_of modules name → dimension_of (listed_of modules) name ≡ option_map dimension o
 listed_dimension modules name o e = lookup-map_values dimension (λ other. bytes_eq other name) modules ∙ ap (option_map dimension) (sym e)
 
--- a module that is named is one of the datum
-pub module_held : (f : SignedFrame) (modules : Named) (name : List ℕ) (v : Module) → AreModules f modules → module_of modules name ≡ Some v → IsModule f.datum v
-module_held f modules name v h is =
-    subst (λ (o : Option Module). IfSome o (IsModule f.datum)) is
-    (All-lookup (IsModule f.datum) (λ other. bytes_eq other name) modules (All-from_recursion (λ e. IsModule f.datum e.1) modules h))
+-- a module that is named is audited for the frame
+pub audited_held : (f : SignedFrame) (entries : Audits) (name : List ℕ) (a : AuditedModule) → AllByRecursion (λ e. IsAuditedFor f e.1) entries → audited_of entries name ≡ Some a → IsAuditedFor f a
+audited_held f entries name a h is =
+    subst (λ (o : Option AuditedModule). IfSome o (IsAuditedFor f)) is
+    (All-lookup (IsAuditedFor f) (λ other. bytes_eq other name) entries (All-from_recursion (λ e. IsAuditedFor f e.1) entries h))
+
+-- where a command is awaited, no block is being read
+pub no_block : (o : Option Block) → block_wants o ≡ wants.Command → o ≡ None
+no_block None h = refl
+no_block (Some b) h = absurd cc
 
 -- ---- a line that was read fits its stage
 
@@ -118,9 +125,10 @@ commands_from g (line.Mul w v) fits = (
 commands_from g (line.Inv w) fits = λ axioms c. fits.1 (frame_with g.frame.field g.frame.datum c) refl (record { d_is = refl; l_is = refl; m_is = refl }) axioms
 commands_from g (line.Constant p q) fits = pair_of g.frame.datum p q fits.1 fits.2 fits.3
 commands_from g (line.Weyl indices) fits = fits.1
-commands_from g (line.Adjoint name) fits = free_from g.modules name fits.1.free
-commands_from g (line.Orbit name w) fits = (fits.2, padded_within w fits.3, free_from g.modules name fits.1.free)
+commands_from g (line.Adjoint name) fits = (free_from g.modules name fits.1.free, no_block g.block fits.0)
+commands_from g (line.Orbit name w) fits = (fits.2, padded_within w fits.3, free_from g.modules name fits.1.free, no_block g.block fits.0)
 commands_from g (line.Matrix name w) fits = λ axioms c. fits.2 (frame_with g.frame.field g.frame.datum c) refl (record { d_is = refl; l_is = refl; m_is = refl }) axioms
+commands_from g (line.Row row) fits = (fits.1, fits.2)
 commands_from g _ fits = tt
 
 ready_from : (at : Stage) (said : Line) → Fits (wants_of at) (sizes_of at) (listed_of (modules_of at)) said → Ready at said

@@ -1,12 +1,12 @@
 -- The status by the kinds of the replies, and the state after them.
-use Rattle.std.proofs.Common.{◌≡◌, ◌≢◌, ℕ, ◌+◌, Bool, true, false, cond, ◌||◌, List, [], ◌∷◌, ◌++◌, Some, refl, sym, ap, ◌∙◌, subst, arith}
+use Rattle.std.proofs.Common.{◌≡◌, ◌≢◌, ℕ, ◌+◌, Bool, true, false, cond, ◌||◌, List, [], ◌∷◌, ◌++◌, None, refl, sym, ap, ◌∙◌, subst, arith}
 use Rattle.std.specs.Prelude.{not, nat_eq}
 use Rattle.std.specs.Bool.{MatchBool}
 use Rattle.std.proofs.lemmas.Bool.{false≢true}
 use Rattle.lie_script.specs.Texts.{name_of, refusal}
 use Rattle.lie_script.specs.declared.faults.FaultName.TheVariants as fault
-use Rattle.lie_session.specs.State.{State, fresh, is_loaded, ended_status}
-use Rattle.lie_session.specs.Replies.{next_count, over, Replies, RepliesAtEnd}
+use Rattle.lie_session.specs.State.{State, fresh, is_loaded, may_end, dropped, ended_status}
+use Rattle.lie_session.specs.Replies.{next_count, over, Refuses, Accepts, Replies, RepliesAtEnd}
 use Rattle.lie_session.specs.Changes.{Changes}
 use Rattle.lie_session.specs.Output.{rests, RepliesTo, has, is_fatal, is_refused, status_of}
 use Rattle.lie_session.specs.declared.mode.Mode.{Mode}
@@ -14,6 +14,8 @@ use Rattle.lie_session.specs.declared.mode.Mode.TheVariants.{Run, Check}
 use Rattle.lie_session.specs.declared.reply.Kind.{Kind}
 use Rattle.lie_session.specs.declared.reply.Kind.TheVariants as kind
 use Rattle.lie_session.specs.declared.reply.Reply.{Reply}
+use Rattle.lie_session.specs.declared.stage.Stage.{Stage}
+use Rattle.lie_session.specs.declared.stage.Stage.TheVariants as stage
 use Rattle.lie_session.specs.declared.status.Status.TheVariants.{Done, Refused, LoadRefused}
 use Rattle.lie_session.proofs.ChangeLemmas.{changes_from}
 
@@ -160,42 +162,100 @@ pub status-ended : (mode : Mode) (lines : List (List ℕ)) (replies : List Reply
 status-ended mode lines replies last h rest =
     rested last.ended (is_loaded last.stage) replies last refl refl (either mode last rest) (tells mode fresh 0 lines replies last refl h)
 
-chosen_kind : Bool → Kind
-chosen_kind true = kind.Silent
-chosen_kind false = kind.Fatal
+-- ---- after the reply of the end
+
+or_false : (b : Bool) → (b || false) ≡ b
+or_false true = refl
+or_false false = refl
+
+or_true : (b : Bool) → (b || true) ≡ true
+or_true true = refl
+or_true false = refl
+
+-- one reply more
+has-push : (test : Kind → Bool) (k : Kind) (front : List Reply) (reply : Reply) → reply.kind ≡ k → has test (front ++ reply ∷ []) ≡ (has test front || test k)
+has-push test k front reply is =
+    has-append test front (reply ∷ []) ∙ ap (λ z. has test front || (test z || false)) is ∙ ap (λ b. has test front || b) (or_false (test k))
+
+-- a silent one
+silent_end : (front : List Reply) (last : State) (reply : Reply) → last.ended ≡ false → is_loaded last.stage ≡ true → Tells fresh front last → reply.kind ≡ kind.Silent
+    → status_of (front ++ reply ∷ []) ≡ ended_status last
+silent_end front last reply live loaded t is =
+    let fatal : has is_fatal (front ++ reply ∷ []) ≡ false = has-push is_fatal kind.Silent front reply is ∙ or_false (has is_fatal front) ∙ t.fatal ∙ live in
+    let refused : has is_refused (front ++ reply ∷ []) ≡ not (nat_eq last.refusals 0) = has-push is_refused kind.Silent front reply is ∙ t.refused in
+    ap (λ b. cond b LoadRefused (cond (has is_refused (front ++ reply ∷ [])) Refused Done)) fatal
+    ∙ other (has is_refused (front ++ reply ∷ [])) last.refusals refused
+    ∙ sym (ap (λ b. cond b (cond (nat_eq last.refusals 0) Done Refused) LoadRefused) loaded)
+
+-- one that is counted
+refused_end : (front : List Reply) (last : State) (reply : Reply) → last.ended ≡ false → Tells fresh front last → reply.kind ≡ kind.Refused → status_of (front ++ reply ∷ []) ≡ Refused
+refused_end front last reply live t is =
+    let fatal : has is_fatal (front ++ reply ∷ []) ≡ false = has-push is_fatal kind.Refused front reply is ∙ or_false (has is_fatal front) ∙ t.fatal ∙ live in
+    let refused : has is_refused (front ++ reply ∷ []) ≡ true = has-push is_refused kind.Refused front reply is ∙ or_true (has is_refused front) in
+    ap (λ b. cond b LoadRefused (cond (has is_refused (front ++ reply ∷ [])) Refused Done)) fatal ∙ ap (λ b. cond b Refused Done) refused
+
+-- one before `load`
+fatal_end : (front : List Reply) (reply : Reply) → reply.kind ≡ kind.Fatal → status_of (front ++ reply ∷ []) ≡ LoadRefused
+fatal_end front reply is =
+    ap (λ b. cond b LoadRefused (cond (has is_refused (front ++ reply ∷ [])) Refused Done)) (has-push is_fatal kind.Fatal front reply is ∙ or_true (has is_fatal front))
+
+-- a stage in which a block is dropped is loaded still
+dropped_loaded : (at : Stage) → is_loaded at ≡ true → is_loaded (dropped at) ≡ true
+dropped_loaded stage.Field h = h
+dropped_loaded (stage.Datum F) h = h
+dropped_loaded (stage.Lines F lines) h = h
+dropped_loaded (stage.Load setting) h = h
+dropped_loaded (stage.Loaded g) h = refl
+
+-- where the input may end, a group is loaded
+ends_loaded : (at : Stage) → may_end at ≡ true → is_loaded at ≡ true
+ends_loaded stage.Field h = h
+ends_loaded (stage.Datum F) h = h
+ends_loaded (stage.Lines F lines) h = h
+ends_loaded (stage.Load setting) h = h
+ends_loaded (stage.Loaded g) h = refl
+
+counted_zero : (n : ℕ) → nat_eq (next_count n) 0 ≡ false
+counted_zero n = grind arith
 
 -- after the reply of the end
-pub status-end : (mode : Mode) (lines : List (List ℕ)) (front : List Reply) (last : State) (n : ℕ) (reply : Reply) (over : State) → RepliesTo mode fresh 0 lines front last → last.ended ≡ false
-    → RepliesAtEnd last n reply over → status_of (front ++ reply ∷ []) ≡ ended_status last
-status-end mode lines front last n reply over h live r =
-    let t = tells mode fresh 0 lines front last refl h in
-    by_loaded (is_loaded last.stage) refl (ap (λ (k : Reply). k.kind) r.0) t where
-      or_false : (b : Bool) → (b || false) ≡ b
-      or_false true = refl
-      or_false false = refl
+pub status-end : (mode : Mode) (lines : List (List ℕ)) (front : List Reply) (last : State) (n : ℕ) (reply : Reply) (done : State) → RepliesTo mode fresh 0 lines front last → last.ended ≡ false
+    → RepliesAtEnd last n reply done → status_of (front ++ reply ∷ []) ≡ ended_status done
+status-end mode lines front last n reply done h live r = by_end (may_end last.stage) (ends_loaded last.stage) r where
+  t : Tells fresh front last
+  t = tells mode fresh 0 lines front last refl h
 
-      or_true : (b : Bool) → (b || true) ≡ true
-      or_true true = refl
-      or_true false = refl
+  text : List ℕ
+  text = refusal n (name_of fault.End) []
 
-      by_loaded : (loaded : Bool) → is_loaded last.stage ≡ loaded
-          → reply.kind ≡ (let k : Reply = cond (is_loaded last.stage) (record { kind = kind.Silent; bytes = [] }) (record { kind = kind.Fatal; bytes = refusal n (name_of fault.End) [] }) in k.kind)
-          → Tells fresh front last → status_of (front ++ reply ∷ []) ≡ ended_status last
-      by_loaded true is k t =
-          let silent : reply.kind ≡ kind.Silent = k ∙ ap (λ (b : Bool). let z : Reply = cond b (record { kind = kind.Silent; bytes = [] }) (record { kind = kind.Fatal; bytes = refusal n (name_of fault.End) [] }) in z.kind) is in
-          let fatal : has is_fatal (front ++ reply ∷ []) ≡ false =
-          has-append is_fatal front (reply ∷ []) ∙ ap (λ z. has is_fatal front || (is_fatal z || false)) silent ∙ or_false (has is_fatal front) ∙ t.fatal ∙ live in
-          let refused : has is_refused (front ++ reply ∷ []) ≡ not (nat_eq last.refusals 0) =
-          has-append is_refused front (reply ∷ []) ∙ ap (λ z. has is_refused front || (is_refused z || false)) silent ∙ t.refused in
-          ap (λ b. cond b LoadRefused (cond (has is_refused (front ++ reply ∷ [])) Refused Done)) fatal
-          ∙ other (has is_refused (front ++ reply ∷ [])) last.refusals refused
-          ∙ sym (ap (λ b. cond b (cond (nat_eq last.refusals 0) Done Refused) LoadRefused) is)
-      by_loaded false is k t =
-          let silent : reply.kind ≡ kind.Fatal = k ∙ ap (λ (b : Bool). let z : Reply = cond b (record { kind = kind.Silent; bytes = [] }) (record { kind = kind.Fatal; bytes = refusal n (name_of fault.End) [] }) in z.kind) is in
-          let fatal : has is_fatal (front ++ reply ∷ []) ≡ true =
-          has-append is_fatal front (reply ∷ []) ∙ ap (λ z. has is_fatal front || (is_fatal z || false)) silent ∙ or_true (has is_fatal front) in
-          ap (λ b. cond b LoadRefused (cond (has is_refused (front ++ reply ∷ [])) Refused Done)) fatal
-          ∙ sym (ap (λ b. cond b (cond (nat_eq last.refusals 0) Done Refused) LoadRefused) is)
+  by_loaded : (loaded : Bool) → is_loaded last.stage ≡ loaded
+      → (reply ≡ record { kind = cond loaded kind.Refused kind.Fatal; bytes = text })
+      × (done ≡ cond loaded (record last { stage = dropped last.stage; refusals = next_count last.refusals; ended = true }) (over last))
+      → status_of (front ++ reply ∷ []) ≡ ended_status done
+  by_loaded true is r =
+      refused_end front last reply live t (ap (λ (k : Reply). k.kind) r.0)
+      ∙ sym (
+      ap ended_status r.1
+      ∙ ap (λ b. cond b (cond (nat_eq (next_count last.refusals) 0) Done Refused) LoadRefused) (dropped_loaded last.stage is)
+      ∙ ap (λ b. cond b Done Refused) (counted_zero last.refusals)
+      )
+  by_loaded false is r = fatal_end front reply (ap (λ (k : Reply). k.kind) r.0) ∙ sym (ap ended_status r.1)
+
+  by_end : (ends : Bool) → (ends ≡ true → is_loaded last.stage ≡ true)
+      → MatchBool ends (Accepts (record last { ended = true }) None reply done) (Refuses (record last { ended = true }) text reply done) → status_of (front ++ reply ∷ []) ≡ ended_status done
+  by_end true loaded r = silent_end front last reply live (loaded refl) t (ap (λ (k : Reply). k.kind) r.0) ∙ sym (ap ended_status r.1)
+  by_end false loaded r = by_loaded (is_loaded last.stage) refl r
+
+-- where nothing is loaded, the end counts nothing
+pub end_uncounted : (s : State) (n : ℕ) (reply : Reply) (done : State) → is_loaded s.stage ≡ false → RepliesAtEnd s n reply done → done.refusals ≡ s.refusals
+end_uncounted s n reply done early r = by_end (may_end s.stage) r where
+  by_loaded : (loaded : Bool) → loaded ≡ false → done ≡ cond loaded (record s { stage = dropped s.stage; refusals = next_count s.refusals; ended = true }) (over s) → done.refusals ≡ s.refusals
+  by_loaded true no is = absurd (false≢true (sym no))
+  by_loaded false no is = ap (λ (t : State). t.refusals) is
+
+  by_end : (ends : Bool) → MatchBool ends (Accepts (record s { ended = true }) None reply done) (Refuses (record s { ended = true }) (refusal n (name_of fault.End) []) reply done) → done.refusals ≡ s.refusals
+  by_end true r = ap (λ (t : State). t.refusals) r.1
+  by_end false r = by_loaded (is_loaded s.stage) early r.1
 
 -- what each reply keeps a script keeps
 pub kept_to : (P : State → Type 0) → ((s : State) (n : ℕ) (bytes : List ℕ) (reply : Reply) (next : State) → P s → Replies s n bytes reply next → P next)

@@ -8,6 +8,8 @@ use Rattle.lie_field.specs.declared.faults.FieldFault.{FieldFault}
 use Rattle.lie_field.specs.declared.faults.FieldFault.TheVariants as field
 use Rattle.lie_group.specs.declared.faults.LoadFault.{LoadFault}
 use Rattle.lie_group.specs.declared.faults.LoadFault.TheVariants as load
+use Rattle.lie_identities.specs.declared.covering.CoverFault.{CoverFault}
+use Rattle.lie_identities.specs.declared.covering.CoverFault.TheVariants as cover
 use Rattle.lie_identities.specs.declared.faults.AuditFault.{AuditFault}
 use Rattle.lie_identities.specs.declared.faults.AuditFault.TheVariants as audit
 use Rattle.lie_identities.specs.declared.relations.Rel.{Rel}
@@ -102,6 +104,11 @@ module_words (module_of.Wide n) = Some (codes "wide", pos n ∷ [])
 module_words (module_of.Heavy a) = Some (codes "heavy", pos a ∷ [])
 module_words (module_of.Huge r k) = Some (codes "huge", r ∷ pos k ∷ [])
 
+-- the words of the fault of a module that does not cover
+abbrev pub cover_words : CoverFault → Words
+cover_words (cover.Dead r) = (codes "dead", r ∷ [])
+cover_words (cover.Uncovered j) = (codes "uncovered", pos j ∷ [])
+
 -- the words of a fault of a call; want of memory has none
 abbrev pub words_of : CallFault → Option Words
 words_of call.NoMemory = None
@@ -110,3 +117,5 @@ words_of (call.Datum l why) = datum_words l why
 words_of (call.Load why) = load_words why
 words_of (call.Module why) = module_words why
 words_of (call.Audit why) = audit_words why
+words_of (call.Cover why) = Some (cover_words why)
+words_of call.Outside = Some (codes "outside", [])

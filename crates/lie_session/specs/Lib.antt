@@ -16,4 +16,5 @@ pub mod Output
 pub mod Runs
 pub mod Loaded
 pub mod Printed
+pub mod Reduced
 pub mod OneOutput

@@ -24,7 +24,7 @@ use Rattle.lie_script.specs.Reading.{reads}
 use Rattle.lie_script.specs.declared.line.Line.TheVariants as line
 use Rattle.lie_weight.specs.OrbitFaults.{LoadsOrbit}
 use Rattle.lie_session.specs.DatumLines.{padded}
-use Rattle.lie_session.specs.Held.{LoadedGroup}
+use Rattle.lie_session.specs.Held.{LoadedGroup, IsBlockOf}
 use Rattle.lie_session.specs.Named.{module_of, listed_of, HasDistinctNames}
 use Rattle.lie_session.specs.Output.{RepliesTo}
 use Rattle.lie_session.specs.Replies.{Accepts, Replies, SaysLine}
@@ -39,6 +39,7 @@ IsBuilt f v = IsAdjointOf f.datum v ⊎ ((w : List ℤ) × (length w ≡ f.datum
 
 -- A group is loaded: its frame is that of a field within the limits and a datum, its carrier meets the identities and covers over the
 -- field. Each named module is built from the frame and meets the identities, its name finds it, and no two have one name.
+-- Where a block is being read, it is one on a named module that covers.
 pub record HasGroup (g : LoadedGroup) : Type 0 where
   pub sized : IsWithinLimit g.frame.field.given
   pub frame : IsFrameOf g.frame.field g.frame.datum g.frame
@@ -49,6 +50,7 @@ pub record HasGroup (g : LoadedGroup) : Type 0 where
   pub met : AllByRecursion (λ e. MeetsFrame g.frame e.1) g.modules
   pub found : AllByRecursion (λ e. module_of g.modules e.0 ≡ Some e.1) g.modules
   pub distinct : HasDistinctNames g.modules
+  pub block : IfSome g.block (IsBlockOf g.frame g.modules)
 
 -- in each state that a script leads to, a loaded group is one
 abbrev pub GroupsAreLoaded : Type 0

@@ -9,7 +9,12 @@ use Rattle.std.proofs.Common.{refl, sym, subst}
 use Rattle.std.proofs.lemmas.Map.Made.{keys_of-map_values}
 use base.Stored.{coded_via}
 use mathlib.Core.HLevel.{Σ_prop_path}
+use Rattle.lie_const.specs.ConstantTables.{ConstantTable}
 use Rattle.lie_const.specs.Modules.{Module, dimension}
+use Rattle.lie_const.specs.Signs.{SignTable}
+use Rattle.lie_const.specs.declared.term.Term.{Term}
+use Rattle.lie_datum.specs.RootDatum.{Base, Root}
+use Rattle.lie_datum.specs.RootList.{RootDatum}
 use Rattle.lie_datum.specs.Vectors.{Vector}
 use Rattle.lie_identities.specs.Audited.{AuditedModule}
 use Rattle.lie_ring.specs.Matrices.{Matrix}
@@ -19,9 +24,21 @@ use Rattle.lie_script.specs.Names.{Listed}
 abbrev pub Named : Type 0
 Named = List (List ℕ × Module)
 
--- the names with the modules that a table of audited modules has, entry by entry
-abbrev pub named_of : List (Vec ℕ × AuditedModule) → Named
-named_of entries = map (λ e. (e.0.items, e.1.module)) entries
+-- names with their modules and what these are audited for
+abbrev pub Audits : Type 0
+Audits = List (List ℕ × AuditedModule)
+
+-- those that a table has, entry by entry
+abbrev pub audits_of : List (Vec ℕ × AuditedModule) → Audits
+audits_of entries = map (λ e. (e.0.items, e.1)) entries
+
+-- the names with the modules alone
+abbrev pub named_of : Audits → Named
+named_of entries = map (λ e. (e.0, e.1.module)) entries
+
+-- the audited module of this name
+abbrev pub audited_of : Audits → List ℕ → Option AuditedModule
+audited_of entries name = lookup (λ other. bytes_eq other name) entries
 
 -- the module of this name
 abbrev pub module_of : Named → List ℕ → Option Module
@@ -39,29 +56,68 @@ HasDistinctNames modules = IsDistinct bytes_eq (keys_of modules)
 pub listed_distinct : (modules : Named) → HasDistinctNames modules → IsDistinct bytes_eq (keys_of (listed_of modules))
 listed_distinct modules distinct = subst (IsDistinct bytes_eq) (sym (keys_of-map_values dimension modules)) distinct
 
--- named modules, of which no two have one name
+-- audited modules with their names, of which no two are alike
 pub record NamedModules : Type 0 where
-  pub entries : Named
-  pub distinct : HasDistinctNames entries
+  pub entries : Audits
+  pub distinct : HasDistinctNames (named_of entries)
 
 -- those with equal entries are equal
 pub same_modules : (v w : NamedModules) → v.entries ≡ w.entries → v ≡ w
 same_modules v w e =
-    let pairs : ◌≡◌ {A = (modules : Named) × HasDistinctNames modules} (v.entries, v.distinct) (w.entries, w.distinct) = Σ_prop_path (λ modules. IsDistinct-prop bytes_eq (keys_of modules)) e in
+    let pairs : ◌≡◌ {A = (entries : Audits) × HasDistinctNames (named_of entries)} (v.entries, v.distinct) (w.entries, w.distinct) = Σ_prop_path (λ entries. IsDistinct-prop bytes_eq (keys_of (named_of entries))) e in
     λ i. record { entries = (pairs i).0; distinct = (pairs i).1 }
 
--- a matrix of integers is stored as its shape and its rows
+-- a vector is stored as its coordinates
+abbrev vector_code : Coded Vector
+vector_code = coded_list coded_ℤ
+
+-- a matrix of integers as its shape and its rows
 abbrev matrix_code : Coded (Matrix ℤ)
 matrix_code =
     code_by (ℕ × (ℕ × List (List ℤ))) (coded× coded_ℕ (coded× coded_ℕ (coded_list (coded_list coded_ℤ)))) (λ M. (M.height, (M.width, M.rows)))
     (λ p. record { height = p.0; width = p.1.0; rows = p.1.1 }) (λ _. refl)
 
--- a module is stored as its parts
+-- a module as its parts
 abbrev module_code : Coded Module
 module_code =
-    code_by (ℕ × (List Vector × List (List (Matrix ℤ)))) (coded× coded_ℕ (coded× (coded_list (coded_list coded_ℤ)) (coded_list (coded_list matrix_code))))
+    code_by (ℕ × (List Vector × List (List (Matrix ℤ)))) (coded× coded_ℕ (coded× (coded_list vector_code) (coded_list (coded_list matrix_code))))
     (λ v. (v.positive, (v.weights, v.powers))) (λ p. record { positive = p.0; weights = p.1.0; powers = p.1.1 }) (λ _. refl)
 
--- named modules are stored as their entries
+-- a root as its coefficients and those of its coroot
+abbrev root_code : Coded Root
+root_code = code_by (Vector × Vector) (coded× vector_code vector_code) (λ r. (r.coeffs, r.co_coeffs)) (λ p. record { coeffs = p.0; co_coeffs = p.1 }) (λ _. refl)
+
+-- a datum as its base and its positive roots
+abbrev datum_code : Coded RootDatum
+datum_code =
+    code_by ((ℕ × (List Vector × List Vector)) × List Root) (coded× (coded× coded_ℕ (coded× (coded_list vector_code) (coded_list vector_code))) (coded_list root_code))
+    (λ D. ((D.base.dim, (D.base.roots, D.base.coroots)), D.positive))
+    (λ p. record { base = record { dim = p.0.0; roots = p.0.1.0; coroots = p.0.1.1 }; positive = p.1 }) (λ _. refl)
+
+-- a term of a commutator as its exponents, its root and its value
+abbrev term_code : Coded Term
+term_code =
+    code_by (ℕ × (ℕ × (ℤ × ℤ))) (coded× coded_ℕ (coded× coded_ℕ (coded× coded_ℤ coded_ℤ))) (λ t. (t.i, (t.j, (t.root, t.value))))
+    (λ p. record { i = p.0; j = p.1.0; root = p.1.1.0; value = p.1.1.1 }) (λ _. refl)
+
+-- a table of constants as its lists
+abbrev constants_code : Coded ConstantTable
+constants_code =
+    code_by (ℕ × (List ℤ × List (List Term))) (coded× coded_ℕ (coded× (coded_list coded_ℤ) (coded_list (coded_list term_code))))
+    (λ c. (c.positive, (c.values, c.terms))) (λ p. record { positive = p.0; values = p.1.0; terms = p.1.1 }) (λ _. refl)
+
+-- a table of signs as its list
+abbrev signs_code : Coded SignTable
+signs_code =
+    code_by (ℕ × (ℕ × List ℤ)) (coded× coded_ℕ (coded× coded_ℕ (coded_list coded_ℤ))) (λ t. (t.rank, (t.positive, t.signs)))
+    (λ p. record { rank = p.0; positive = p.1.0; signs = p.1.1 }) (λ _. refl)
+
+-- an audited module as the module, and what it is audited for
+abbrev audited_code : Coded AuditedModule
+audited_code =
+    code_by (Module × (RootDatum × (ConstantTable × SignTable))) (coded× module_code (coded× datum_code (coded× constants_code signs_code)))
+    (λ a. (a.module, (a.datum, (a.constants, a.signs)))) (λ p. record { «module» = p.0; datum = p.1.0; constants = p.1.1.0; signs = p.1.1.1 }) (λ _. refl)
+
+-- and audited modules with their names as the entries
 abbrev pub named_code : Coded NamedModules
-named_code = coded_via (coded_list (coded× (coded_list coded_ℕ) module_code)) (λ v. v.entries) same_modules
+named_code = coded_via (coded_list (coded× (coded_list coded_ℕ) audited_code)) (λ v. v.entries) same_modules

@@ -2,7 +2,7 @@
 -- Own: all texts.
 --
 --   the outcome of a call      the call's own clause says what it answers; its outcome is what the session makes of that
-use Rattle.std.specs.Prelude.{◌≡◌, ℕ, List, [], ◌∷◌, ◌++◌, ℤ, map, nat_abs, Option, Some, None, Result, Ok, Err, MatchOption}
+use Rattle.std.specs.Prelude.{⊤, ◌≡◌, ℕ, List, [], ◌∷◌, ◌++◌, ℤ, map, nat_abs, nat_eq, length, Option, Some, None, Result, Ok, Err, MatchOption}
 use Rattle.std.specs.Bool.{MatchBool}
 use Rattle.lie_audit.specs.WordMatrix.{word_matrix}
 use Rattle.lie_const.specs.Adjoint.{IsAdjointOf}
@@ -19,20 +19,25 @@ use Rattle.lie_group.specs.Groups.{GroupData, LoadsGroup}
 use Rattle.lie_group.specs.Loading.{MakesFrame}
 use Rattle.lie_group.specs.declared.faults.LoadFault.{LoadFault}
 use Rattle.lie_identities.specs.Audit.{Audits}
+use Rattle.lie_identities.specs.Covers.{Covers}
+use Rattle.lie_identities.specs.declared.covering.CoverFault.{CoverFault}
 use Rattle.lie_identities.specs.declared.faults.AuditFault.{AuditFault}
 use Rattle.lie_letters.specs.SignedFrames.{SignedFrame}
 use Rattle.lie_letters.specs.Spelled.{reversed}
 use Rattle.lie_letters.specs.declared.letter.Letter.{Letter}
-use Rattle.lie_reply.specs.Commands.{FormTextOf, ConstantTextOf, WeylTextOf}
+use Rattle.lie_reduce.specs.Reduction.{HasFormMatrix, IsNoWordMatrix}
+use Rattle.lie_reply.specs.Commands.{TellsForm, FormTextOf, ConstantTextOf, WeylTextOf}
 use Rattle.lie_reply.specs.Modules.{module_text, matrix_text}
 use Rattle.lie_reply.specs.Texts.{loaded_text, roots_text}
+use Rattle.lie_ring.specs.Matrices.{Matrix}
 use Rattle.lie_script.specs.declared.line.Line.{Line}
 use Rattle.lie_script.specs.declared.line.Line.TheVariants as line
+use Rattle.lie_unip.specs.Forms.{FormData}
 use Rattle.lie_weight.specs.OrbitFaults.{LoadsOrbit}
 use Rattle.lie_weight.specs.declared.faults.ModuleFault.{ModuleFault}
 use Rattle.lie_session.specs.Asked.{TellsSame}
 use Rattle.lie_session.specs.DatumLines.{DatumLines, opened, padded, with_root, with_coroot, is_whole, base_of}
-use Rattle.lie_session.specs.Held.{Setting, LoadedGroup}
+use Rattle.lie_session.specs.Held.{Setting, Block, LoadedGroup, begun, with_row, without_block}
 use Rattle.lie_session.specs.Named.{module_of}
 use Rattle.lie_session.specs.declared.faults.CallFault.{CallFault}
 use Rattle.lie_session.specs.declared.faults.CallFault.TheVariants as call
@@ -74,7 +79,7 @@ KeepsDatum F lines r = (x : Result RootDatum DatumFault) × LoadsDatum (base_of 
 -- the group is loaded, and no module has a name in it
 abbrev pub group_outcome : Result GroupData LoadFault → Outcome
 group_outcome (Ok g) =
-    answered (stage.Loaded (record { frame = g.frame; carrier = g.carrier.module; modules = [] })) (loaded_text g.frame.field g.frame.datum (dimension g.carrier.module))
+    answered (stage.Loaded (record { frame = g.frame; carrier = g.carrier.module; modules = []; block = None })) (loaded_text g.frame.field g.frame.datum (dimension g.carrier.module))
 group_outcome (Err why) = Err (call.Load why)
 
 -- the group of the frame that was made is loaded, if one was
@@ -143,6 +148,52 @@ SaysMatrix g name w r =
 abbrev pub Says : LoadedGroup → (List ℕ → Type 0) → Outcome → Type 0
 Says g P r = (text : List ℕ) × P text × (r ≡ answered (stage.Loaded g) text)
 
+-- ---- matrices of words
+
+-- the block is begun, where the module covers
+abbrev pub cover_outcome : LoadedGroup → List ℕ → Result ⊤ CoverFault → Outcome
+cover_outcome g name (Ok u) = quiet (stage.Loaded (record g { block = Some (begun name) }))
+cover_outcome g name (Err why) = Err (call.Cover why)
+
+-- a block on the module of the name is begun, where this module covers over the field; a name that no module has is refused in reading
+abbrev pub BeginsBlock : LoadedGroup → List ℕ → Outcome → Type 0
+BeginsBlock g name r =
+    MatchOption (module_of g.modules name) (r ≡ quiet (stage.Loaded g))
+    (λ v. (x : Result ⊤ CoverFault) × Covers g.frame.field g.frame.datum v x × (r ≡ cover_outcome g name x))
+
+-- the matrix of these rows, of dimension n
+abbrev pub matrix_of : ℕ → List (List ℕ) → Matrix ℕ
+matrix_of n rows = record { height = n; width = n; rows = rows }
+
+-- the text is that of a form whose word has the matrix M on the module v; or there is no text, and no word has the matrix
+abbrev pub TellsReduction : SignedFrame → Module → Matrix ℕ → Option (List ℕ) → Type 0
+TellsReduction f v M (Some text) = (x : FormData) × HasFormMatrix f v x M × TellsForm f.datum x text
+TellsReduction f v M None = IsNoWordMatrix f v M
+
+-- the text is the answer, and no block is left; a matrix without a text is refused
+abbrev pub reduced_outcome : LoadedGroup → Option (List ℕ) → Outcome
+reduced_outcome g (Some text) = answered (stage.Loaded (without_block g)) text
+reduced_outcome g None = Err call.Outside
+
+-- the matrix is reduced on the module
+abbrev pub ReducesTo : LoadedGroup → Module → Matrix ℕ → Outcome → Type 0
+ReducesTo g v M r = (text : Option (List ℕ)) × TellsReduction g.frame v M text × (r ≡ reduced_outcome g text)
+
+-- the block has as many rows as its module has basis vectors
+abbrev pub is_full : Module → Block → Bool
+is_full v b = nat_eq (length b.rows) (dimension v)
+
+-- the block, which a row has joined, is kept; where it is full, its matrix is reduced
+abbrev pub GoesOn : LoadedGroup → Module → Block → Outcome → Type 0
+GoesOn g v b r =
+    MatchBool (is_full v b) (ReducesTo g v (matrix_of (dimension v) b.rows) r) (r ≡ quiet (stage.Loaded (record g { block = Some b })))
+
+-- a row joins the block; outside of a block it is refused in reading
+abbrev pub ReadsRow : LoadedGroup → List ℤ → Outcome → Type 0
+ReadsRow g row r =
+    MatchOption g.block (r ≡ quiet (stage.Loaded g))
+    (λ b. MatchOption (module_of g.modules b.name) (r ≡ quiet (stage.Loaded g)) (λ v. GoesOn g v (with_row b row) r))
+
 -- ---- any line
 
 -- What a line leads to at the stage where it is awaited. A silent line changes nothing, and none that isn't awaited would: it is refused in reading.
@@ -163,4 +214,6 @@ Leads (stage.Loaded g) (line.Weyl indices) r = Says g (WeylTextOf g.frame.datum 
 Leads (stage.Loaded g) (line.Adjoint name) r = NamesAdjoint g name r
 Leads (stage.Loaded g) (line.Orbit name w) r = NamesOrbit g name w r
 Leads (stage.Loaded g) (line.Matrix name w) r = SaysMatrix g name w r
+Leads (stage.Loaded g) (line.Reduce name) r = BeginsBlock g name r
+Leads (stage.Loaded g) (line.Row row) r = ReadsRow g row r
 Leads at _ r = r ≡ quiet at

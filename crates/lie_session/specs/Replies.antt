@@ -6,6 +6,7 @@
 --   refused    a line that is refused after `load`
 --   fatal      a refusal up to and with `load`, which ends the session
 use Rattle.std.specs.Prelude.{◌≡◌, ℕ, ◌+◌, ◌-◌, ◌^◌, min, if◌then◌else◌, true, List, [], Option, Some, None, Result, Ok, Err, MatchResult}
+use Rattle.std.specs.Bool.{MatchBool}
 use Rattle.std.specs.Option.{IsSomeAnd}
 use Rattle.lie_script.specs.Reading.{reads}
 use Rattle.lie_script.specs.Texts.{line_fault, name_of, refusal}
@@ -16,7 +17,7 @@ use Rattle.lie_script.specs.declared.line.Line.{Line}
 use Rattle.lie_session.specs.Faults.{words_of}
 use Rattle.lie_session.specs.Named.{listed_of}
 use Rattle.lie_session.specs.Outcomes.{Outcome, Leads}
-use Rattle.lie_session.specs.State.{State, is_loaded, modules_of, wants_of, sizes_of}
+use Rattle.lie_session.specs.State.{State, is_loaded, modules_of, wants_of, sizes_of, may_end, dropped}
 use Rattle.lie_session.specs.declared.reply.Kind.TheVariants as kind
 use Rattle.lie_session.specs.declared.reply.Reply.{Reply}
 use Rattle.lie_session.specs.declared.stage.Stage.{Stage}
@@ -30,11 +31,11 @@ next_count n = min (n + 1) (2 ^ 64 - 1)
 abbrev pub over : State → State
 over s = record s { stage = stage.Field; ended = true }
 
--- a refusal up to and with `load` is fatal, and a later one is counted; nothing else changes
+-- a refusal up to and with `load` is fatal, and a later one is counted and drops the block that was being read; nothing else changes
 abbrev pub Refuses : State → List ℕ → Reply → State → Type 0
 Refuses s text reply next =
     (reply ≡ record { kind = if is_loaded s.stage then kind.Refused else kind.Fatal; bytes = text })
-    × (next ≡ (if is_loaded s.stage then record s { refusals = next_count s.refusals } else over s))
+    × (next ≡ (if is_loaded s.stage then record s { stage = dropped s.stage; refusals = next_count s.refusals } else over s))
 
 -- an accepted line: it is answered where there is a text, and has no reply else
 abbrev pub Accepts : State → Option (List ℕ) → Reply → State → Type 0
@@ -66,8 +67,7 @@ pub record Replies (s : State) (n : ℕ) (bytes : List ℕ) (reply : Reply) (nex
 abbrev pub SaysLine : State → List ℕ → Line → Type 0
 SaysLine s bytes said = reads (wants_of s.stage) (sizes_of s.stage) (listed_of (modules_of s.stage)) bytes ≡ Ok said
 
--- the reply of the end, after n lines: before `load` it is a refusal
+-- the reply of the end, after n lines, which ends the session: before `load` and in a block it is a refusal, and is counted like any
 abbrev pub RepliesAtEnd : State → ℕ → Reply → State → Type 0
 RepliesAtEnd s n reply next =
-    (reply ≡ (if is_loaded s.stage then record { kind = kind.Silent; bytes = [] } else record { kind = kind.Fatal; bytes = refusal n (name_of fault.End) [] }))
-    × (next ≡ record s { ended = true })
+    MatchBool (may_end s.stage) (Accepts (record s { ended = true }) None reply next) (Refuses (record s { ended = true }) (refusal n (name_of fault.End) []) reply next)

@@ -5,7 +5,9 @@
 --   field_of        the field, once it was accepted
 --   datum_of        the datum, once all its lines were accepted
 --   group_of        the group, once it is loaded
-use Rattle.std.specs.Prelude.{ℕ, Bool, true, false, if◌then◌else◌, nat_eq, [], length, Option, Some, None}
+--   dropped         without the block that was being read
+use Rattle.std.specs.Prelude.{ℕ, Bool, true, false, if◌then◌else◌, nat_eq, [], length, is_none, Option, Some, None}
+use Rattle.lie_const.specs.Modules.{Module, dimension}
 use Rattle.lie_datum.specs.RootDatum.{rank}
 use Rattle.lie_datum.specs.RootList.{RootDatum}
 use Rattle.lie_field.specs.FiniteField.{FiniteField}
@@ -14,8 +16,8 @@ use Rattle.lie_script.specs.declared.sizes.Sizes.{Sizes}
 use Rattle.lie_script.specs.declared.sizes.Wants.{Wants}
 use Rattle.lie_script.specs.declared.sizes.Wants.TheVariants as wants
 use Rattle.lie_session.specs.DatumLines.{datum_wants}
-use Rattle.lie_session.specs.Held.{LoadedGroup}
-use Rattle.lie_session.specs.Named.{Named}
+use Rattle.lie_session.specs.Held.{Block, LoadedGroup, without_block}
+use Rattle.lie_session.specs.Named.{Named, module_of}
 use Rattle.lie_session.specs.declared.stage.Stage.{Stage}
 use Rattle.lie_session.specs.declared.stage.Stage.TheVariants as stage
 use Rattle.lie_session.specs.declared.status.Status.{Status}
@@ -63,13 +65,18 @@ abbrev pub modules_of : Stage → Named
 modules_of (stage.Loaded g) = g.modules
 modules_of _ = []
 
--- what is awaited: the field, the line `datum`, the simple roots and coroots, `load`, and then commands
+-- a row is awaited in a block, and a command outside
+abbrev pub block_wants : Option Block → Wants
+block_wants None = wants.Command
+block_wants (Some b) = wants.Row
+
+-- what is awaited: the field, the line `datum`, the simple roots and coroots, `load`, and then commands, or the rows of a block
 abbrev pub wants_of : Stage → Wants
 wants_of stage.Field = wants.Field
 wants_of (stage.Datum F) = wants.Datum
 wants_of (stage.Lines F lines) = datum_wants lines
 wants_of (stage.Load setting) = wants.Load
-wants_of (stage.Loaded g) = wants.Command
+wants_of (stage.Loaded g) = block_wants g.block
 
 -- the number of coordinates, 0 where there is none
 abbrev pub dim_of : Stage → ℕ
@@ -95,6 +102,21 @@ abbrev pub order_of : Option FiniteField → ℕ
 order_of None = 0
 order_of (Some F) = order F.given
 
+-- the dimension of a module, 0 where there is none
+abbrev pub dimension_of : Option Module → ℕ
+dimension_of None = 0
+dimension_of (Some v) = dimension v
+
+-- the dimension of the module of a block, 0 outside
+abbrev pub block_dim : Named → Option Block → ℕ
+block_dim modules None = 0
+block_dim modules (Some b) = dimension_of (module_of modules b.name)
+
+-- how many elements a row has, 0 where none is awaited
+abbrev pub width_of : Stage → ℕ
+width_of (stage.Loaded g) = block_dim g.modules g.block
+width_of _ = 0
+
 -- the sizes that a line is read with
 abbrev pub sizes_of : Stage → Sizes
 sizes_of at = record {
@@ -102,9 +124,19 @@ sizes_of at = record {
   l = rank_of at;
   m = count_of (datum_of at);
   q = order_of (field_of at);
-  dim = 0;
+  dim = width_of at;
   loaded = is_loaded at;
 }
+
+-- whether the input may end: a group is loaded, and no block is being read
+abbrev pub may_end : Stage → Bool
+may_end (stage.Loaded g) = is_none g.block
+may_end _ = false
+
+-- the stage without the block that was being read
+abbrev pub dropped : Stage → Stage
+dropped (stage.Loaded g) = stage.Loaded (without_block g)
+dropped at = at
 
 -- the status that a state tells after the last reply
 abbrev pub ended_status : State → Status

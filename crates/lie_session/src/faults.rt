@@ -1,12 +1,14 @@
 //! The faults of calls, and their words.
 ghost use Rattle.std.specs.Prelude.{◌≡◌, ◌≤◌, ◌++◌, Some, IfOk};
 ghost use Rattle.lie_session.specs.declared.faults.CallFault.TheVariants.{NoMemory};
-ghost use Rattle.lie_session.specs.Faults.{field_words, datum_words, rel_numbers, relation_name, graded_words, large_words, audit_words, load_words, module_words, words_of};
+ghost use Rattle.lie_session.specs.Faults.{field_words, datum_words, rel_numbers, relation_name, graded_words, large_words, audit_words, load_words, module_words, cover_words, words_of};
 
 use lie_audit::{AuditFault, Rel};
 use lie_datum::{DatumFault, RootId, Side};
 use lie_field::FieldFault;
 use lie_group::LoadFault;
+use lie_identities::CoverFault;
+use lie_script::FaultName;
 use lie_weight::ModuleFault;
 use std::alloc::{AllocError, Global};
 
@@ -20,6 +22,10 @@ pub(crate) enum CallFault {
     Load(LoadFault),
     Module(ModuleFault),
     Audit(AuditFault),
+    /// The module of a `reduce` line does not cover.
+    Cover(CoverFault),
+    /// No word has the matrix.
+    Outside,
 }
 
 impl From<AllocError> for CallFault {
@@ -67,6 +73,16 @@ impl From<AuditFault> for CallFault {
 
     fn from(why: AuditFault) -> CallFault {
         CallFault::Audit(why)
+    }
+}
+
+impl From<CoverFault> for CallFault {
+    ghost use Rattle.lie_session.specs.declared.faults.CallFault.TheVariants as call;
+
+    ghost from_gives = { λ why e. e ≡ call.Cover why };
+
+    fn from(why: CoverFault) -> CallFault {
+        CallFault::Cover(why)
     }
 }
 
@@ -285,6 +301,16 @@ fn words_of_module(alloc: Global, fault: &ModuleFault) -> Result<Words, AllocErr
     }
 }
 
+/// The words of the fault of a module that does not cover.
+fn words_of_cover(alloc: Global, fault: &CoverFault) -> Result<Words, AllocError>
+    ensures { IfOk result (λ w. cover_words fault.now ≡ (w.0.now, w.1.items)) }
+{
+    match fault {
+        CoverFault::Dead(r) => words(alloc, b"dead", &[r.number() as i128]),
+        CoverFault::Uncovered(j) => words(alloc, b"uncovered", &[*j as i128]),
+    }
+}
+
 impl CallFault {
     /// The words of the fault; want of memory has none.
     pub(crate) fn words(&self, alloc: Global) -> Result<Words, AllocError>
@@ -297,6 +323,8 @@ impl CallFault {
             CallFault::Load(fault) => words_of_load(alloc, fault),
             CallFault::Module(fault) => words_of_module(alloc, fault),
             CallFault::Audit(fault) => words_of_audit(alloc, fault),
+            CallFault::Cover(fault) => words_of_cover(alloc, fault),
+            CallFault::Outside => words(alloc, FaultName::Outside.text(), &[]),
         }
     }
 }

@@ -1,21 +1,30 @@
 //! What a session holds of a group: its field and its datum before `load`, and itself after it.
-ghost use Rattle.std.specs.Prelude.{◌≡◌, ◌≢◌, ◌++◌, [], length, None, Ok, IfOk};
+ghost use Rattle.std.specs.Prelude.{◌≡◌, ◌≢◌, ◌++◌, [], true, length, is_some, None, Ok, IfOk, All};
+ghost use Rattle.std.specs.List.{AllByRecursion};
 ghost use Rattle.lie_audit.specs.WordMatrix.{IsWordFor};
 ghost use Rattle.lie_const.specs.CommutatorTerms.{IsPair};
-ghost use Rattle.lie_const.specs.Modules.{IsModule};
+ghost use Rattle.lie_const.specs.Modules.{IsModule, dimension};
 ghost use Rattle.lie_datum.specs.RootDatum.{IsWithin};
 ghost use Rattle.lie_datum.specs.RootList.{IsLoaded};
+ghost use Rattle.lie_field.specs.Quotient.{order};
+ghost use Rattle.lie_group.specs.Groups.{IsAuditedFor};
 ghost use Rattle.lie_identities.specs.Audit.{HasLightWeights};
+ghost use Rattle.lie_identities.specs.Covers.{IsCovering};
 ghost use Rattle.lie_letters.specs.Spelled.{reversed};
 ghost use Rattle.lie_reply.specs.Commands.{FormTextOf, ConstantTextOf};
+ghost use Rattle.lie_script.specs.Numbers.{is_element};
 ghost use Rattle.lie_session.specs.Asked.{TellsSame};
 ghost use Rattle.lie_session.specs.DatumLines.{padded as with_zeros};
-ghost use Rattle.lie_session.specs.Named.{module_of};
+ghost use Rattle.lie_session.specs.Held.{IsRow, without_block};
+ghost use Rattle.lie_session.specs.Named.{module_of, named_of};
+ghost use Rattle.lie_session.specs.Outcomes.{matrix_of, TellsReduction};
+ghost use Rattle.lie_session.specs.State.{block_wants, block_dim};
 
+use crate::block::Block;
 use crate::datum::padded;
 use crate::faults::CallFault;
 use crate::modules::Modules;
-use lie_audit::word_matrix;
+use lie_audit::{Audited, word_matrix};
 use lie_bruhat::{form, inv, mul};
 use lie_datum::Datum;
 use lie_field::Field;
@@ -24,7 +33,7 @@ use lie_letters::{Frame, Word};
 use lie_reply::{
     constant_text, form_text, matrix_text, module_text, roots_text, same_text, weyl_text,
 };
-use lie_script::{Line, Numbers, Text};
+use lie_script::{Line, Numbers, Text, Wants};
 use lie_weight::Module;
 use std::alloc::{AllocError, Global};
 use std::marker::Model;
@@ -154,36 +163,60 @@ fn same(alloc: Global, group: &Group, w: &Word, v: &Word) -> Result<Text, AllocE
     same_text(alloc, x.same(&y))
 }
 
-/// A group with its named modules.
+/// The text of the form whose word has the matrix of a full block on a module, where a word has it.
+fn reduced(
+    alloc: Global,
+    group: &Group,
+    space: &Audited,
+    block: &Block,
+) -> Result<Option<Text>, AllocError>
+    requires audited { IsAuditedFor group.now.frame space.now }
+    requires covering { IsCovering group.now.frame.field group.now.frame.datum space.now.module }
+    requires rows { AllByRecursion (IsRow group.now.frame.field (dimension space.now.module)) block.now.rows }
+    requires full { length block.now.rows ≡ dimension space.now.module }
+    ensures { IfOk result (TellsReduction group.now.frame space.now.module (matrix_of (dimension space.now.module) block.now.rows)) }
+{
+    let _dim = space.module().dim();
+    let matrix = block.matrix(alloc)?;
+    match group.reduce(alloc, space, &matrix)? {
+        Some(form) => Ok(Some(form_text(alloc, group.frame(), &form)?)),
+        None => Ok(None),
+    }
+}
+
+/// A group with its named modules, and the block that is being read, where one is.
 #[derive(Drop)]
 pub(crate) struct LoadedGroup {
     group: Group,
     modules: Modules,
+    block: Option<Block>,
 }
 
 impl Model for LoadedGroup {
-    ghost use Rattle.lie_session.specs.Held.{LoadedGroup, AreModules};
+    ghost use Rattle.lie_session.specs.Held.{LoadedGroup, IsKept};
+    ghost use Rattle.lie_session.specs.Named.{named_of};
 
     ghost Value = { LoadedGroup };
 
-    ghost view = { λ g. record { frame = g.group.frame; carrier = g.group.carrier.module; modules = g.modules.entries } };
+    ghost view = { λ g. record { frame = g.group.frame; carrier = g.group.carrier.module; modules = named_of g.modules.entries; block = g.block } };
 
-    ghost invariant = { λ g. AreModules g.group.frame g.modules.entries };
+    ghost invariant = { λ g. IsKept g.group.frame g.modules.entries g.block };
 }
 
 impl LoadedGroup {
-    ghost use Rattle.lie_session.specs.Obeyed.{IsAnswered};
-    ghost use Rattle.lie_session.specs.Outcomes.{Leads, NamesModule, NamesAdjoint, NamesOrbit, SaysMatrix};
-    ghost use Rattle.lie_session.specs.Ready.{Commands};
+    ghost use Rattle.lie_session.specs.Obeyed.{IsAnswered, Joined};
+    ghost use Rattle.lie_session.specs.Outcomes.{Leads, NamesModule, NamesAdjoint, NamesOrbit, SaysMatrix, BeginsBlock, ReadsRow};
+    ghost use Rattle.lie_session.specs.Ready.{Commands, IsGrown};
     ghost use Rattle.lie_session.specs.declared.stage.Stage.TheVariants.{Loaded as LoadedStage};
 
     /// The group, in which no module has a name. It takes no memory.
     pub(crate) fn new(alloc: Global, group: Group) -> LoadedGroup
-        ensures { result ≡ record { frame = group.frame; carrier = group.carrier.module; modules = [] } }
+        ensures { result ≡ record { frame = group.frame; carrier = group.carrier.module; modules = []; block = None } }
     {
         LoadedGroup {
             group,
             modules: Modules::new(alloc),
+            block: None,
         }
     }
 
@@ -196,9 +229,46 @@ impl LoadedGroup {
 
     /// The named modules.
     pub(crate) fn modules(&self) -> &Modules
-        ensures { result.now.entries ≡ self.now.modules }
+        ensures { named_of result.now.entries ≡ self.now.modules }
     {
         &self.modules
+    }
+
+    /// Whether a block is being read.
+    pub(crate) fn in_block(&self) -> bool
+        ensures { result ≡ is_some self.now.block }
+    {
+        self.block.is_some()
+    }
+
+    /// What is awaited: a row in a block, and a command outside.
+    pub(crate) fn wants(&self) -> Wants
+        ensures { result ≡ block_wants self.now.block }
+    {
+        match &self.block {
+            Some(_) => Wants::Row,
+            None => Wants::Command,
+        }
+    }
+
+    /// The dimension of the module of the block; 0 where no block is being read.
+    pub(crate) fn block_dim(&self) -> usize
+        ensures { result ≡ block_dim self.now.modules self.now.block }
+    {
+        let Some(block) = &self.block else {
+            return 0;
+        };
+        match self.modules.find(block.name()) {
+            Some(space) => space.module().dim(),
+            None => 0,
+        }
+    }
+
+    /// Drops the block that is being read, where one is.
+    pub(crate) fn drop_block(&mut self)
+        ensures { self.new ≡ without_block self.old }
+    {
+        self.block = None;
     }
 
     /// The text of the constant and of the terms of two roots.
@@ -220,7 +290,7 @@ impl LoadedGroup {
         };
         let frame = self.frame();
         frame.datum.loaded();
-        let matrix = word_matrix(alloc, &frame.field, &frame.datum, space, w)?;
+        let matrix = word_matrix(alloc, &frame.field, &frame.datum, space.module(), w)?;
         Ok(Some(matrix_text(alloc, &matrix)?))
     }
 
@@ -234,6 +304,7 @@ impl LoadedGroup {
         requires shape { IsModule self.old.frame.datum space }
         requires light { HasLightWeights space }
         requires free { module_of self.old.modules name.now ≡ None }
+        requires outside { self.old.block ≡ None }
         ensures { IsAnswered (NamesModule self.old name.now space) self.old result self.new }
     {
         let audited = self.group.audit(alloc, space)?;
@@ -244,7 +315,8 @@ impl LoadedGroup {
 
     /// Gives the adjoint module a new name.
     fn name_adjoint(&mut self, alloc: Global, name: &[u8]) -> Result<Option<Text>, CallFault>
-        requires { module_of self.old.modules name.now ≡ None }
+        requires free { module_of self.old.modules name.now ≡ None }
+        requires outside { self.old.block ≡ None }
         ensures { IsAnswered (NamesAdjoint self.old name.now) self.old result self.new }
     {
         let frame = self.frame();
@@ -263,6 +335,7 @@ impl LoadedGroup {
         requires long { length v.now ≡ self.old.frame.datum.base.dim }
         requires small { IsWithin 100 (with_zeros v.now) }
         requires free { module_of self.old.modules name.now ≡ None }
+        requires outside { self.old.block ≡ None }
         ensures { IsAnswered (NamesOrbit self.old name.now v.now) self.old result self.new }
     {
         let frame = self.frame();
@@ -272,7 +345,52 @@ impl LoadedGroup {
         self.name_module(alloc, name, space)
     }
 
-    /// Does what a command says. Other lines say nothing here.
+    /// Begins a block on the module of a name, where it covers.
+    fn begin(&mut self, alloc: Global, name: &[u8]) -> Result<Option<Text>, CallFault>
+        ensures { IsAnswered (BeginsBlock self.old name.now) self.old result self.new }
+    {
+        let Some(space) = self.modules.find(name) else {
+            return Ok(None);
+        };
+        let frame = self.group.frame();
+        space.covering(&frame.field, &frame.datum)?;
+        self.block = Some(Block::begun(alloc, name)?);
+        Ok(None)
+    }
+
+    /// Goes on with a block, which a row has joined: it is kept, or its matrix is reduced where it is full.
+    fn go_on(&mut self, alloc: Global, block: Block) -> Result<Option<Text>, CallFault>
+        requires outside { self.old.block ≡ None }
+        requires grown { IsGrown self.old.frame self.old.modules block }
+        ensures { IsAnswered (Joined self.old block) self.old result self.new }
+    {
+        let Some(space) = self.modules.find(block.name()) else {
+            unreachable!()
+        };
+        if block.count() != space.module().dim() {
+            self.block = Some(block);
+            return Ok(None);
+        }
+        match reduced(alloc, &self.group, space, &block)? {
+            Some(text) => Ok(Some(text)),
+            None => Err(CallFault::Outside),
+        }
+    }
+
+    /// Reads a row of the block.
+    fn read_row(&mut self, alloc: Global, row: &Numbers) -> Result<Option<Text>, CallFault>
+        requires long { length row.now ≡ block_dim self.old.modules self.old.block }
+        requires elements { All (λ a. is_element (order self.old.frame.field.given) a ≡ true) row.now }
+        ensures { IsAnswered (ReadsRow self.old row.now) self.old result self.new }
+    {
+        let Some(mut block) = self.block.take() else {
+            return Ok(None);
+        };
+        block.push(alloc, &self.group.frame().field, row)?;
+        self.go_on(alloc, block)
+    }
+
+    /// Does what a command or a row says. Other lines say nothing here.
     pub(crate) fn obey(&mut self, alloc: Global, line: Line) -> Result<Option<Text>, CallFault>
         requires { Commands self.old line }
         ensures { IsAnswered (Leads (LoadedStage self.old) line) self.old result self.new }
@@ -288,6 +406,8 @@ impl LoadedGroup {
             Line::Adjoint { name } => self.name_adjoint(alloc, name.bytes()),
             Line::Orbit { name, v } => self.name_orbit(alloc, name.bytes(), &v),
             Line::Matrix { name, w } => Ok(self.matrix(alloc, name.bytes(), &w)?),
+            Line::Reduce { name } => self.begin(alloc, name.bytes()),
+            Line::Row(row) => self.read_row(alloc, &row),
             _ => Ok(None),
         }
     }

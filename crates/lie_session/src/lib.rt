@@ -10,6 +10,7 @@
 //! on `indexmap` for the table of named modules.
 #![tactic(auto)]
 
+mod block;
 mod cutting;
 mod datum;
 mod faults;

@@ -3,12 +3,11 @@ ghost use Rattle.std.specs.Prelude.{◌≡◌, ◌∷◌, ◌++◌, [], None, On
 ghost use Rattle.std.specs.Option.{option_copied};
 ghost use Rattle.std.specs.List.{IsDistinct-prop};
 ghost use Rattle.std.specs.Map.{keys_of};
-ghost use Rattle.lie_session.specs.Named.{named_of, module_of, listed_of, HasDistinctNames};
+ghost use Rattle.lie_session.specs.Named.{audits_of, named_of, module_of, audited_of, listed_of, HasDistinctNames};
 
 use indexmap::IndexMap;
 use lie_audit::Audited;
 use lie_script::Names;
-use lie_weight::Module;
 use std::alloc::{AllocError, Global};
 use std::marker::Model;
 
@@ -16,17 +15,17 @@ use std::marker::Model;
 #[derive(Drop)]
 pub(crate) struct Modules {
     table: IndexMap<Vec<u8>, Audited>,
-    ghost distinct: { HasDistinctNames (named_of table.entries) } by { IsDistinct-prop bytes_eq (keys_of (named_of table.entries)) },
+    ghost distinct: { HasDistinctNames (named_of (audits_of table.entries)) } by { IsDistinct-prop bytes_eq (keys_of (named_of (audits_of table.entries))) },
 }
 
 impl Model for Modules {
-    ghost use Rattle.lie_session.specs.Named.{NamedModules, named_code, named_of};
+    ghost use Rattle.lie_session.specs.Named.{NamedModules, named_code, audits_of};
 
     ghost Value = { NamedModules };
 
     ghost coded = { named_code };
 
-    ghost view = { λ m. record { entries = named_of m.table.entries; distinct = m.distinct } };
+    ghost view = { λ m. record { entries = audits_of m.table.entries; distinct = m.distinct } };
 }
 
 impl Modules {
@@ -46,8 +45,8 @@ impl Modules {
         name: &[u8],
         audited: Audited,
     ) -> Result<(), AllocError>
-        requires { module_of self.old.entries name.now ≡ None }
-        ensures pushed { OnOk result (self.new.entries ≡ self.old.entries ++ (name.now, audited.module) ∷ []) }
+        requires { module_of (named_of self.old.entries) name.now ≡ None }
+        ensures pushed { OnOk result (self.new.entries ≡ self.old.entries ++ (name.now, audited) ∷ []) }
         ensures left { OnErr result (self.new ≡ self.old) }
     {
         let name = Vec::from_slice(alloc, name)?;
@@ -55,28 +54,25 @@ impl Modules {
         Ok(())
     }
 
-    /// The module of a name.
-    #[tactic(auto, using(crate::proofs::NamedLemmas::named_module))]
-    pub(crate) fn find(&self, name: &[u8]) -> Option<&Module>
-        ensures { option_copied result ≡ module_of self.now.entries name.now }
+    /// The audited module of a name.
+    #[tactic(auto, using(crate::proofs::NamedLemmas::audited_found))]
+    pub(crate) fn find(&self, name: &[u8]) -> Option<&Audited>
+        ensures { option_copied result ≡ audited_of self.now.entries name.now }
     {
-        match self.table.get(name) {
-            Some(audited) => Some(audited.module()),
-            None => None,
-        }
+        self.table.get(name)
     }
 }
 
 impl Names for Modules {
-    ghost use Rattle.lie_session.specs.Named.{listed_distinct};
+    ghost use Rattle.lie_session.specs.Named.{named_of, listed_of, listed_distinct};
 
-    ghost listed = { λ m. listed_of m.entries };
+    ghost listed = { λ m. listed_of (named_of m.entries) };
 
-    ghost distinct = { λ m. listed_distinct m.entries m.distinct };
+    ghost distinct = { λ m. listed_distinct (named_of m.entries) m.distinct };
 
     fn dim_of(&self, name: &[u8]) -> Option<usize> {
         match self.find(name) {
-            Some(module) => Some(module.dim()),
+            Some(audited) => Some(audited.module().dim()),
             None => None,
         }
     }

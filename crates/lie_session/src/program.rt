@@ -5,6 +5,7 @@ ghost use Rattle.lie_session.specs.Output.{FieldsAreSized, DataAreLoaded};
 ghost use Rattle.lie_session.specs.OneOutput.{OneOutputUpToCollect, OneOutput};
 ghost use Rattle.lie_session.specs.Printed.{FormsAreJoined, EqualRepliesDecideWords, SameDecidesWords};
 ghost use Rattle.lie_session.specs.Loaded.{GroupsAreLoaded, MatricesAreProducts, JoinedWordsHaveOneMatrix};
+ghost use Rattle.lie_session.specs.Reduced.{BlocksAreCovering, MatricesAreReduced};
 ghost use Rattle.lie_session.specs.Runs.{mode_of, input_limit, CauseOf, ReadCounts, WriteCounts, Complete, Exceeds};
 ghost use Rattle.lie_session.specs.Steps.{stop_status, AnsweredAtEnd, Finished, Turned, Ran};
 ghost use Rattle.lie_session.specs.State.{fresh, ended_status};
@@ -173,6 +174,11 @@ pub fn lie<S: Source, K: Sink>(
     ensures loaded { GroupsAreLoaded }
     ensures matrices { MatricesAreProducts }
     ensures joined_matrices { JoinedWordsHaveOneMatrix }
+
+    // `reduce` begins a block on a covering module, and at the last row the matrix is reduced: the reply is the text of the form of each word
+    // that has the matrix, or it is the refusal `outside`, where no word has it.
+    ensures blocks { BlocksAreCovering }
+    ensures reductions { MatricesAreReduced }
 {
     match asked(words) {
         Some(mode) => run(alloc, mode, source, sink),

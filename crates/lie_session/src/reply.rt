@@ -8,7 +8,7 @@ pub enum Kind {
     Silent,
     /// The line is accepted and answered.
     Answer,
-    /// A line after `load` is refused; the session goes on.
+    /// A line after `load`, or the end in a block, is refused; a line leaves the session open.
     Refused,
     /// A line up to and with `load`, or the end before it, is refused; the session is ended.
     Fatal,

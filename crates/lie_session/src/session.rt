@@ -84,7 +84,8 @@ impl Session {
         self.refusals
     }
 
-    /// Refuses a line with this text: the reply is fatal before `load`, and counted after it.
+    /// Refuses a line, or the end, with this text: the reply is fatal before `load`. After it the reply is
+    /// counted, and the block that was being read is dropped.
     fn refuse(
         &mut self,
         alloc: Global,
@@ -96,6 +97,7 @@ impl Session {
     {
         let bytes = refusal(alloc, number, name, numbers)?;
         if self.stage.is_loaded() {
+            self.stage.drop_block();
             self.refusals = self.refusals.saturating_add(1);
             return Ok(Reply {
                 kind: Kind::Refused,
@@ -150,7 +152,7 @@ impl Session {
         requires { self.old.ended ≡ false }
         ensures replies { IfOk result (λ reply. Replies self.old number line.now reply self.new) }
 
-        // A refused line leaves a loaded group, and a fatal reply ends the session.
+        // A refused line leaves a loaded group but for its block, and a fatal reply ends the session.
         ensures changes { IfOk result (λ reply. Changes self.old reply.kind self.new) }
         ensures ended { OnErr result (self.new.ended ≡ true) }
     {
@@ -161,19 +163,16 @@ impl Session {
         result
     }
 
-    /// Replies to the end of the input, after so many lines.
+    /// Replies to the end of the input, after so many lines: before `load` and in a block it is refused.
     pub fn end(&mut self, alloc: Global, lines: u64) -> Result<Reply, AllocError>
         requires { self.old.ended ≡ false }
         ensures replies { IfOk result (λ reply. RepliesAtEnd self.old lines reply self.new) }
         ensures ended { self.new.ended ≡ true }
     {
         self.ended = true;
-        if self.stage.is_loaded() {
+        if self.stage.may_end() {
             return Ok(silent(alloc));
         }
-        Ok(Reply {
-            kind: Kind::Fatal,
-            bytes: refusal(alloc, lines, FaultName::End.text(), &[])?,
-        })
+        self.refuse(alloc, lines, FaultName::End.text(), &[])
     }
 }

@@ -159,7 +159,26 @@ impl Stage {
     ghost use Rattle.lie_session.specs.Obeyed.{IsLed, IsObeyed};
     ghost use Rattle.lie_session.specs.Outcomes.{Leads};
     ghost use Rattle.lie_session.specs.Ready.{Ready};
-    ghost use Rattle.lie_session.specs.State.{field_of, datum_of, modules_of, is_loaded, wants_of, sizes_of};
+    ghost use Rattle.lie_session.specs.State.{field_of, datum_of, modules_of, is_loaded, wants_of, width_of, sizes_of, may_end, dropped};
+
+    /// Drops the block that is being read, where one is.
+    pub(crate) fn drop_block(&mut self)
+        ensures { self.new ≡ dropped self.old }
+    {
+        if let Stage::Loaded(group) = self {
+            group.drop_block();
+        }
+    }
+
+    /// Whether the input may end: a group is loaded, and no block is being read.
+    pub(crate) fn may_end(&self) -> bool
+        ensures { result ≡ may_end self.now }
+    {
+        match self {
+            Stage::Loaded(group) => !group.in_block(),
+            _ => false,
+        }
+    }
 
     /// Whether a group is loaded.
     pub(crate) fn is_loaded(&self) -> bool
@@ -177,7 +196,7 @@ impl Stage {
             Stage::Datum(_) => Wants::Datum,
             Stage::Lines(_, lines) => lines.wants(),
             Stage::Load(_) => Wants::Load,
-            Stage::Loaded(_) => Wants::Command,
+            Stage::Loaded(group) => group.wants(),
         }
     }
 
@@ -205,6 +224,16 @@ impl Stage {
         }
     }
 
+    /// How many elements a row has; 0 where none is awaited.
+    fn width(&self) -> usize
+        ensures { result ≡ width_of self.now }
+    {
+        match self {
+            Stage::Loaded(group) => group.block_dim(),
+            _ => 0,
+        }
+    }
+
     /// The sizes that a line is read with.
     fn sizes(&self) -> Sizes
         ensures { result ≡ sizes_of self.now }
@@ -221,7 +250,7 @@ impl Stage {
             l,
             m: self.datum().map_or(0, |datum| datum.m()),
             q: self.field().map_or(0, |field| field.q()),
-            dim: 0,
+            dim: self.width(),
             loaded: self.is_loaded(),
         }
     }

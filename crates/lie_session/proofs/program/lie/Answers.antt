@@ -3,6 +3,7 @@ use Rattle.lie_session.proofs.CauseLemmas.{complete_from}
 use Rattle.lie_session.proofs.LoadedLemmas.{fields_are_sized, data_are_loaded, groups_are_loaded, matrices_are_products, joined_words_have_one_matrix}
 use Rattle.lie_session.proofs.OneOutputLemmas.{one_output_up_to_collect, one_output}
 use Rattle.lie_session.proofs.PrintedLemmas.{forms_are_joined, equal_replies_decide_words, same_decides_words}
+use Rattle.lie_session.proofs.ReducedLemmas.{blocks_are_covering, matrices_are_reduced}
 use Rattle.lie_session.proofs.program.lie.Goals as goal
 
 pub returns-in-Some-clause-complete : goal.returns-in-Some-clause-complete
@@ -70,3 +71,15 @@ returns-in-None-clause-matrices g c = matrices_are_products
 
 pub returns-in-None-clause-joined_matrices : goal.returns-in-None-clause-joined_matrices
 returns-in-None-clause-joined_matrices g c = joined_words_have_one_matrix
+
+pub returns-in-Some-clause-blocks : goal.returns-in-Some-clause-blocks
+returns-in-Some-clause-blocks g c = blocks_are_covering
+
+pub returns-in-Some-clause-reductions : goal.returns-in-Some-clause-reductions
+returns-in-Some-clause-reductions g c = matrices_are_reduced
+
+pub returns-in-None-clause-blocks : goal.returns-in-None-clause-blocks
+returns-in-None-clause-blocks g c = blocks_are_covering
+
+pub returns-in-None-clause-reductions : goal.returns-in-None-clause-reductions
+returns-in-None-clause-reductions g c = matrices_are_reduced
