@@ -109,7 +109,7 @@ weyl_line sizes fields = do
   few ← unless (nat_le (length fields) 4096) (At fault.Letters (length fields))
   if is_dash fields then Ok (line.Weyl []) else weyl_of sizes fields
 
--- `row e_1 .. e_n`
+-- `row e_1 .. e_n`: an element for each column
 unfoldable pub row_line : Sizes → List Span → Result Line Fault
 row_line sizes fields = do
   row ← vector sizes.dim (ElementOf sizes.q) fields
