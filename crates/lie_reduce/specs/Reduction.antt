@@ -54,3 +54,8 @@ IsNoWordMatrix f v M = (w : List Letter) → IsWordOver (unsigned f) w → word_
 abbrev pub HasPivots : SignedFrame → Module → Matrix ℕ → Option (List ℤ) → Type 0
 HasPivots f v M (Some w) = (x : FormData) → HasFormMatrix f v x M → x.weyl ≡ w
 HasPivots f v M None = IsNoWordMatrix f v M
+
+-- what `reduce` answers: the form whose word has the matrix M, or that M is the matrix of no word
+abbrev pub Reduces : SignedFrame → Module → Matrix ℕ → Option FormData → Type 0
+Reduces f v M (Some x) = HasFormMatrix f v x M
+Reduces f v M None = IsNoWordMatrix f v M
