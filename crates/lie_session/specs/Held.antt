@@ -56,6 +56,6 @@ pub record IsBlockOf (f : SignedFrame) (modules : Named) (b : Block) : Type 0 wh
   pub few : length b.rows < dimension acted_on
 
 -- what the code keeps of named modules and a block: the modules are audited for the frame, and the block is one of theirs
-pub record IsKept (f : SignedFrame) (entries : Audits) (block : Option Block) : Type 0 where
+pub record IsKept (f : SignedFrame) (entries : Audits) (o : Option Block) : Type 0 where
   pub audited : AllByRecursion (λ e. IsAuditedFor f e.1) entries
-  pub block : IfSome block (IsBlockOf f (named_of entries))
+  pub block : IfSome o (IsBlockOf f (named_of entries))

@@ -13,7 +13,8 @@ use Rattle.lie_const.specs.ConstantTables.{ConstantTable}
 use Rattle.lie_const.specs.Modules.{Module, dimension}
 use Rattle.lie_const.specs.Signs.{SignTable}
 use Rattle.lie_const.specs.declared.term.Term.{Term}
-use Rattle.lie_datum.specs.RootDatum.{Base, Root}
+use Rattle.lie_datum.specs.RootDatum.{Base}
+use Rattle.lie_datum.specs.declared.root_pair.Root.{Root}
 use Rattle.lie_datum.specs.RootList.{RootDatum}
 use Rattle.lie_datum.specs.Vectors.{Vector}
 use Rattle.lie_identities.specs.Audited.{AuditedModule}

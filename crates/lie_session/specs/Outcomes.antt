@@ -2,7 +2,7 @@
 -- Own: all texts.
 --
 --   the outcome of a call      the call's own clause says what it answers; its outcome is what the session makes of that
-use Rattle.std.specs.Prelude.{⊤, ◌≡◌, ℕ, List, [], ◌∷◌, ◌++◌, ℤ, map, nat_abs, nat_eq, length, Option, Some, None, Result, Ok, Err, MatchOption}
+use Rattle.std.specs.Prelude.{⊤, ◌≡◌, Bool, ℕ, List, [], ◌∷◌, ◌++◌, ℤ, map, nat_abs, nat_eq, length, Option, Some, None, Result, Ok, Err, MatchOption}
 use Rattle.std.specs.Bool.{MatchBool}
 use Rattle.lie_audit.specs.WordMatrix.{word_matrix}
 use Rattle.lie_const.specs.Adjoint.{IsAdjointOf}
