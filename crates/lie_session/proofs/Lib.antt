@@ -2,6 +2,7 @@ pub mod ToldLemmas
 pub mod LineLemmas
 pub mod InputLemmas
 pub mod StageLemmas
+pub mod RowLemmas
 mod NamedLemmas
 pub mod ChangeLemmas
 pub mod StatusLemmas

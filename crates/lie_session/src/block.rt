@@ -106,13 +106,14 @@ impl Block {
 
     /// Fills a row of a matrix, where zeros stand.
     fn fill_row(&self, matrix: &mut Dense, row: usize)
-        requires rows { AllByRecursion (λ r. length r ≡ matrix.old.height) self.now.rows }
+        requires rows { AllByRecursion (λ r. length r ≡ length self.now.rows) self.now.rows }
         requires row { row < length self.now.rows }
-        requires count { length self.now.rows ≡ matrix.old.height }
-        requires partly { matrix.old ≡ partial_table 0 matrix.old.height matrix.old.height (entry 0 (matrix_of matrix.old.height self.now.rows)) row 0 }
-        ensures partly { matrix.new ≡ partial_table 0 matrix.old.height matrix.old.height (entry 0 (matrix_of matrix.old.height self.now.rows)) row matrix.old.height }
+        requires partly { let n = length self.now.rows in
+            matrix.old ≡ partial_table 0 n n (entry 0 (matrix_of n self.now.rows)) row 0 }
+        ensures partly { let n = length self.now.rows in
+            matrix.new ≡ partial_table 0 n n (entry 0 (matrix_of n self.now.rows)) row n }
     {
-        for col in 0..matrix.dim() {
+        for col in 0..self.count() {
             matrix.set(row, col, self.entry(row, col));
         }
     }
