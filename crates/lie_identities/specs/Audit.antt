@@ -43,17 +43,19 @@ pub record IsUngraded (d : RootDatum) (v : Module) (r : ℤ) (k a b : ℕ) : Typ
 abbrev pub IsGraded : RootDatum → Module → Type 0
 IsGraded d v = (r : ℤ) (k a b : ℕ) → ¬ IsUngraded d v r k a b
 
--- the factors of the two sides, over the Laurent polynomials
+-- the factors of the left side, over the Laurent polynomials
 abbrev pub left_factors : Rel → List (Factor Polynomial)
 left_factors q = left_side laurent_variables q
 
+-- the factors of the right side
 abbrev pub right_factors : RootDatum → ConstantTable → Signs → Rel → List (Factor Polynomial)
 right_factors d c eta q = right_side laurent_variables d c eta q
 
--- the matrices of the two sides
+-- the matrix of the left side
 abbrev pub left_matrix : RootDatum → Module → Rel → Matrix Polynomial
 left_matrix d v q = side_matrix laurent_variables d v (left_factors q)
 
+-- the matrix of the right side
 abbrev pub right_matrix : RootDatum → ConstantTable → Signs → Module → Rel → Matrix Polynomial
 right_matrix d c eta v q = side_matrix laurent_variables d v (right_factors d c eta q)
 

@@ -11,14 +11,14 @@ use Rattle.lie_letters.specs.declared.letter.Letter.{Letter}
 use Rattle.lie_script.specs.Accepted.{IsWordWithin, IsNewName, Fits, AcceptedLinesFit}
 use Rattle.lie_script.specs.Checks.{unless, found, none_at}
 use Rattle.lie_script.specs.Fields.{Span, fields_of, foreign_from, begins_with}
-use Rattle.lie_script.specs.Kinds.{field_of, field_line, datum_line, vector, root_line, coroot_line, bare_line, word_line, constant_line, is_dash, weyl_of, weyl_line}
+use Rattle.lie_script.specs.Kinds.{field_of, field_line, datum_line, vector, root_line, coroot_line, bare_line, word_line, constant_line, is_dash, weyl_of, weyl_line, row_line}
 use Rattle.lie_script.specs.Names.{Listed, dimension_of}
 use Rattle.lie_script.specs.Letters.{word, few_letters, letters, is_semicolon, two_sides, two_words}
-use Rattle.lie_script.specs.Modules.{is_name, kind_of, new_name, kind_line, module_line, matrix_line}
-use Rattle.lie_script.specs.Numbers.{is_within, allows, integer, number, numbers, natural}
+use Rattle.lie_script.specs.Modules.{is_name, kind_of, new_name, kind_line, module_line, matrix_line, reduce_line}
+use Rattle.lie_script.specs.Numbers.{is_within, is_element, allows, integer, number, numbers, natural}
 use Rattle.lie_script.specs.Reading.{keyword_of, is_command, begins, own_line, spoken, said, reads}
 use Rattle.lie_script.specs.declared.allowed.Allowed.{Allowed}
-use Rattle.lie_script.specs.declared.allowed.Allowed.TheVariants.{Within, RootOf}
+use Rattle.lie_script.specs.declared.allowed.Allowed.TheVariants.{Within, RootOf, ElementOf}
 use Rattle.lie_script.specs.declared.faults.FaultName.TheVariants as fault
 use Rattle.lie_script.specs.declared.faults.Fault.TheVariants.{Bare, At}
 use Rattle.lie_script.specs.declared.module_kind.ModuleKind.{ModuleKind}
@@ -64,6 +64,8 @@ awaited_by keyword.Constant = wants.Command
 awaited_by keyword.Weyl = wants.Command
 awaited_by keyword.Module = wants.Command
 awaited_by keyword.Matrix = wants.Command
+awaited_by keyword.Reduce = wants.Command
+awaited_by keyword.Row = wants.Row
 
 -- a word that begins a line was awaited
 begun : (word : Keyword) (awaited : Wants) → begins word awaited ≡ true → awaited ≡ awaited_by word
@@ -82,6 +84,8 @@ begun keyword.Constant wants.Command due = refl
 begun keyword.Weyl wants.Command due = refl
 begun keyword.Module wants.Command due = refl
 begun keyword.Matrix wants.Command due = refl
+begun keyword.Reduce wants.Command due = refl
+begun keyword.Row wants.Row due = refl
 begun word awaited due = absurd cc
 
 field_of-fits : (sizes : Sizes) (listed : Listed) (fields : List Span) (all : List ℤ) → AllByRecursion (λ n. is_within (pos 0) (pos 1000000) n ≡ true) all → IfOk (field_of fields all) (Fits wants.Field sizes listed)
@@ -187,6 +191,22 @@ matrix_line-fits sizes listed (name ∷ first ∷ fields) =
     let P = Fits wants.Command sizes listed in
     unless-all P (is_some (dimension_of listed name.bytes)) _ _ (λ known. bind-all P (word sizes (first ∷ fields)) _ (λ w is. (refl, known, word-within sizes (first ∷ fields) w is)))
 
+reduce_line-fits : (sizes : Sizes) (listed : Listed) (fields : List Span) → IfOk (reduce_line listed fields) (Fits wants.Command sizes listed)
+unfolding reduce_line
+reduce_line-fits sizes listed [] = tt
+reduce_line-fits sizes listed (name ∷ []) = unless-all (Fits wants.Command sizes listed) (is_some (dimension_of listed name.bytes)) _ _ (λ known. (refl, known))
+reduce_line-fits sizes listed (name ∷ more ∷ fields) = tt
+
+row_line-fits : (sizes : Sizes) (listed : Listed) (fields : List Span) → IfOk (row_line sizes fields) (Fits wants.Row sizes listed)
+unfolding row_line vector
+row_line-fits sizes listed fields =
+    let P = Fits wants.Row sizes listed in
+    let allowed = ElementOf sizes.q in
+    bind-all P (vector sizes.dim allowed fields) _ (λ row is.
+    let read = unless-ok (nat_eq (length fields) sizes.dim) (At fault.Fields (length fields)) (numbers allowed fields) row is in
+    let ok = numbers-ok allowed fields row read.1 in
+    (refl, ok.0 ∙ eqb-true (length fields) sizes.dim read.0, All-from_recursion (λ a. is_element sizes.q a ≡ true) row ok.1))
+
 own_line-fits : (sizes : Sizes) (listed : Listed) (word : Keyword) (fields : List Span) → IfOk (own_line sizes listed word fields) (Fits (awaited_by word) sizes listed)
 unfolding own_line field_line root_line coroot_line bare_line word_line weyl_line
 own_line-fits sizes listed keyword.Field fields =
@@ -204,6 +224,8 @@ own_line-fits sizes listed keyword.Roots fields = unless-all (Fits wants.Command
 own_line-fits sizes listed keyword.Constant fields = constant_line-fits sizes listed fields
 own_line-fits sizes listed keyword.Module fields = module_line-fits sizes listed fields
 own_line-fits sizes listed keyword.Matrix fields = matrix_line-fits sizes listed fields
+own_line-fits sizes listed keyword.Reduce fields = reduce_line-fits sizes listed fields
+own_line-fits sizes listed keyword.Row fields = row_line-fits sizes listed fields
 own_line-fits sizes listed keyword.Weyl fields =
     let P = Fits wants.Command sizes listed in
     unless-all P (nat_le 1 (length fields)) _ _ (λ some. unless-all P (nat_le (length fields) 4096) _ _ (λ few. if-all P (is_dash fields) _ (weyl_of sizes fields) (refl, none-indices sizes.l) (bind-all P (numbers _ fields) _ (λ indices are. (refl, All-from_recursion (λ i. is_within (pos 1) (pos sizes.l) i ≡ true) indices (numbers-ok _ fields indices are).1)))))

@@ -4,8 +4,9 @@ use Rattle.lie_letters.specs.declared.letter.Letter.TheVariants.{X, H, N, Ninv}
 use Rattle.lie_script.specs.Fields.{fields_of}
 use Rattle.lie_script.specs.Numbers.{number_of, integer, number, numbers, natural}
 use Rattle.lie_script.specs.Letters.{spelled, unit, spelled_list, units, torus_letter, letter, few_letters, root_letter, weyl_letter, letters, word, two_words}
-use Rattle.lie_script.specs.Kinds.{field_of, field_line, vector, root_line, coroot_line, bare_line, word_line, weyl_line}
-use Rattle.lie_script.specs.Modules.{new_name, kind_line, module_line, matrix_line}
+use Rattle.lie_script.specs.Kinds.{field_of, field_line, vector, root_line, coroot_line, bare_line, word_line, weyl_line, row_line}
+use Rattle.lie_script.specs.Modules.{new_name, kind_line, module_line, matrix_line, reduce_line}
+use Rattle.lie_script.specs.Names.{Listed}
 use Rattle.lie_script.specs.Reading.{keyword_of, own_line, spoken, reads}
 use Rattle.lie_script.specs.declared.faults.FaultName.TheVariants as fault
 use Rattle.lie_script.specs.declared.faults.Fault.{Fault}
@@ -21,8 +22,8 @@ abbrev Table : Type 0
 Table = List (List ℕ × Result Line Fault)
 
 -- each line of the table is read so
-abbrev IsRead : Wants → Sizes → Table → Type 0
-IsRead awaited sizes table = map (λ row. reads awaited sizes [] row.0) table ≡ map (λ row. row.1) table
+abbrev IsRead : Wants → Sizes → Listed → Table → Type 0
+IsRead awaited sizes listed table = map (λ row. reads awaited sizes listed row.0) table ≡ map (λ row. row.1) table
 
 abbrev no_sizes : Sizes
 no_sizes = record { d = 0; l = 0; m = 0; q = 0; dim = 0; loaded = false }
@@ -40,12 +41,13 @@ first_lines =
     (32 ∷ 9 ∷ [], Ok line.Silent) ∷
     (9 ∷ 35 ∷ 128 ∷ [], Ok line.Silent) ∷
     (codes "roots", Err (Bare fault.Unloaded)) ∷
+    (codes "reduce nat", Err (Bare fault.Unloaded)) ∷
     (codes "root 1", Err (Bare fault.Order)) ∷
-    (codes "row 1", Err (At fault.Command 1)) ∷
+    (codes "row 1", Err (Bare fault.Order)) ∷
     (codes "collect 1", Err (Bare fault.Order)) ∷
     []
 
-first_lines_read : IsRead wants.Field no_sizes first_lines
+first_lines_read : IsRead wants.Field no_sizes [] first_lines
 unfolding reads fields_of spoken keyword_of own_line field_of field_line vector root_line coroot_line bare_line word_line weyl_line word letters few_letters letter torus_letter spelled unit spelled_list units number_of integer number numbers natural
 first_lines_read = refl
 
@@ -60,7 +62,7 @@ root_lines =
     (codes "root 1 0", Err (At fault.Fields 2)) ∷
     []
 
-root_lines_read : IsRead wants.Root (record no_sizes { d = 1; l = 1; q = 5 }) root_lines
+root_lines_read : IsRead wants.Root (record no_sizes { d = 1; l = 1; q = 5 }) [] root_lines
 unfolding reads fields_of spoken keyword_of own_line field_of field_line vector root_line coroot_line bare_line word_line weyl_line word letters few_letters letter torus_letter spelled unit spelled_list units number_of integer number numbers natural
 root_lines_read = refl
 
@@ -78,7 +80,7 @@ last_lines =
     (codes "coroot 1 0", Err (Bare fault.Order)) ∷
     []
 
-last_lines_read : IsRead wants.Load (record { d = 2; l = 1; m = 1; q = 5; dim = 0; loaded = false }) last_lines
+last_lines_read : IsRead wants.Load (record { d = 2; l = 1; m = 1; q = 5; dim = 0; loaded = false }) [] last_lines
 unfolding reads fields_of spoken keyword_of own_line bare_line word_line word letters few_letters letter torus_letter root_letter weyl_letter spelled unit spelled_list units number_of
 last_lines_read = refl
 
@@ -127,7 +129,7 @@ commands =
     (codes "collect 1", Err (Bare fault.Order)) ∷
     []
 
-commands_read : IsRead wants.Command (record { d = 2; l = 1; m = 1; q = 5; dim = 0; loaded = true }) commands
+commands_read : IsRead wants.Command (record { d = 2; l = 1; m = 1; q = 5; dim = 0; loaded = true }) [] commands
 unfolding reads fields_of spoken keyword_of own_line field_of field_line vector root_line coroot_line bare_line word_line weyl_line word two_words letters few_letters letter torus_letter root_letter weyl_letter spelled unit spelled_list units number_of integer number numbers natural
 commands_read = refl
 
@@ -160,6 +162,40 @@ root_commands =
     (codes "constant 1000000000000000000 1", Err (At fault.Range 10)) ∷
     []
 
-root_commands_read : IsRead wants.Command (record { d = 2; l = 2; m = 3; q = 5; dim = 0; loaded = true }) root_commands
+root_commands_read : IsRead wants.Command (record { d = 2; l = 2; m = 3; q = 5; dim = 0; loaded = true }) [] root_commands
 unfolding reads fields_of spoken keyword_of own_line word_line word letters few_letters letter torus_letter root_letter weyl_letter module_line kind_line new_name matrix_line spelled unit spelled_list units number_of integer number numbers
 root_commands_read = refl
+
+-- commands where a module of dimension 2 has a name
+abbrev reductions : Table
+reductions =
+    (codes "reduce nat", Ok (line.Reduce (codes "nat"))) ∷
+    (codes "reduce adj", Err (At fault.Unknown 8)) ∷
+    (codes "reduce", Err (At fault.Fields 0)) ∷
+    (codes "reduce adj 1", Err (At fault.Fields 2)) ∷
+    (codes "row 0 1", Err (Bare fault.Order)) ∷
+    []
+
+reductions_read : IsRead wants.Command (record { d = 1; l = 1; m = 1; q = 5; dim = 0; loaded = true }) ((codes "nat", 2) ∷ []) reductions
+unfolding reads fields_of spoken keyword_of own_line reduce_line
+reductions_read = refl
+
+-- where a row of the matrix is awaited
+abbrev rows : Table
+rows =
+    (codes "row 4 -0", Ok (line.Row (pos 4 ∷ pos 0 ∷ []))) ∷
+    (codes "row 4 5", Err (At fault.Value 7)) ∷
+    (codes "row -1 x", Err (At fault.Value 5)) ∷
+    (codes "row x 5", Err (At fault.Number 5)) ∷
+    (codes "row 1 1000000000000000000", Err (At fault.Range 7)) ∷
+    (codes "row x", Err (At fault.Fields 1)) ∷
+    (codes "row 0 1 0", Err (At fault.Fields 3)) ∷
+    (codes "# row 0", Ok line.Silent) ∷
+    (codes "rows 0 1", Err (At fault.Command 1)) ∷
+    (codes "reduce nat", Err (Bare fault.Order)) ∷
+    (codes "roots", Err (Bare fault.Order)) ∷
+    []
+
+rows_read : IsRead wants.Row (record { d = 1; l = 1; m = 1; q = 5; dim = 2; loaded = true }) ((codes "nat", 2) ∷ []) rows
+unfolding reads fields_of spoken keyword_of own_line vector row_line integer number numbers
+rows_read = refl

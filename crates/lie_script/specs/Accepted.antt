@@ -6,7 +6,7 @@ use Rattle.lie_datum.specs.RootList.{IsLoaded}
 use Rattle.lie_letters.specs.Frames.{FrameData}
 use Rattle.lie_letters.specs.Spelled.{IsWordOver}
 use Rattle.lie_letters.specs.declared.letter.Letter.{Letter}
-use Rattle.lie_script.specs.Numbers.{is_within, allows}
+use Rattle.lie_script.specs.Numbers.{is_within, is_element, allows}
 use Rattle.lie_script.specs.Modules.{is_name}
 use Rattle.lie_script.specs.Names.{Listed, dimension_of}
 use Rattle.lie_script.specs.Reading.{reads}
@@ -50,6 +50,8 @@ Fits awaited sizes listed (line.Adjoint name) = (awaited ≡ wants.Command) × I
 Fits awaited sizes listed (line.Orbit name v) =
     (awaited ≡ wants.Command) × IsNewName listed name × (length v ≡ sizes.d) × All (λ c. is_within (negsuc 99) (pos 100) c ≡ true) v
 Fits awaited sizes listed (line.Matrix name w) = (awaited ≡ wants.Command) × IsSome (dimension_of listed name) × IsWordWithin sizes w
+Fits awaited sizes listed (line.Reduce name) = (awaited ≡ wants.Command) × IsSome (dimension_of listed name)
+Fits awaited sizes listed (line.Row row) = (awaited ≡ wants.Row) × (length row ≡ sizes.dim) × All (λ a. is_element sizes.q a ≡ true) row
 
 -- every line that passes its checks fits
 abbrev pub AcceptedLinesFit : Type 0

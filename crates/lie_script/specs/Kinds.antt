@@ -10,6 +10,7 @@
 --   roots                         no fields
 --   constant r s                  signed numbers of two roots, neither equal nor opposite
 --   weyl i_1 .. i_n               indices of simple roots, at most 4,096; a lone `-` stands for none
+--   row e_1 .. e_n                a row of a matrix: the numbers of n elements of the field, n being the dimension of the module
 use Rattle.std.specs.Prelude.{ℕ, ◌+◌, ◌&&◌, not, nat_eq, nat_le, ℤ, pos, negsuc, nat_abs, List, [], ◌∷◌, length, take, get_or, codes, bytes_eq, Bool, false, if◌then◌else◌, Result, Ok}
 use Rattle.lie_letters.specs.declared.letter.Letter.{Letter}
 use Rattle.lie_script.specs.Fields.{Span}
@@ -17,7 +18,7 @@ use Rattle.lie_script.specs.Checks.{◌>>=◌, unless, miscounted}
 use Rattle.lie_script.specs.Numbers.{number, numbers, natural}
 use Rattle.lie_script.specs.Letters.{word}
 use Rattle.lie_script.specs.declared.allowed.Allowed.{Allowed}
-use Rattle.lie_script.specs.declared.allowed.Allowed.TheVariants.{Within, SimpleOf, RootOf}
+use Rattle.lie_script.specs.declared.allowed.Allowed.TheVariants.{Within, SimpleOf, RootOf, ElementOf}
 use Rattle.lie_script.specs.declared.faults.FaultName.TheVariants as fault
 use Rattle.lie_script.specs.declared.faults.Fault.{Fault}
 use Rattle.lie_script.specs.declared.faults.Fault.TheVariants.{Bare, At}
@@ -107,3 +108,9 @@ weyl_line sizes fields = do
   some ← unless (nat_le 1 (length fields)) (At fault.Fields (length fields))
   few ← unless (nat_le (length fields) 4096) (At fault.Letters (length fields))
   if is_dash fields then Ok (line.Weyl []) else weyl_of sizes fields
+
+-- `row e_1 .. e_n`: an element for each column
+unfoldable pub row_line : Sizes → List Span → Result Line Fault
+row_line sizes fields = do
+  row ← vector sizes.dim (ElementOf sizes.q) fields
+  Ok (line.Row row)

@@ -4,6 +4,7 @@
 --   module name adjoint               the adjoint module
 --   module name orbit v_1 .. v_d      the module of the orbit of a weight
 --   matrix name w                     a word on a module
+--   reduce name                       a matrix on a module, whose rows follow
 --   a name                            1 to 16 bytes: a lower-case letter, then lower-case letters, digits and `_`
 use Rattle.std.specs.Prelude.{ℕ, ◌+◌, pos, negsuc, Bool, false, not, ◌&&◌, ◌||◌, nat_eq, nat_lt, nat_le, List, [], ◌∷◌, length, codes, bytes_eq, is_some, Option, Result, Ok}
 use Rattle.std.specs.Char.{is_ascii_digit}
@@ -74,3 +75,10 @@ matrix_line sizes listed (name ∷ first ∷ fields) = do
   w ← word sizes (first ∷ fields)
   Ok (line.Matrix name.bytes w)
 matrix_line sizes listed fields = miscounted (length fields)
+
+-- `reduce`: the name of a module
+unfoldable pub reduce_line : Listed → List Span → Result Line Fault
+reduce_line listed (name ∷ []) = do
+  known ← unless (is_some (dimension_of listed name.bytes)) (At fault.Unknown name.column)
+  Ok (line.Reduce name.bytes)
+reduce_line listed fields = miscounted (length fields)

@@ -3,16 +3,16 @@
 --
 --   a number    an optional `-`, then one or more digits; leading zeros are allowed
 --   its range   where it has more than 18 digits, it is out of every range
-use Rattle.std.specs.Prelude.{ℕ, Bool, ◌&&◌, nat_eq, nat_lt, nat_le, if◌then◌else◌, ℤ, pos, neg_ℤ, nat_abs, int_le, List, [], ◌∷◌, length, Option, Some, None, Result, Ok}
+use Rattle.std.specs.Prelude.{ℕ, Bool, ◌&&◌, nat_eq, nat_lt, nat_le, if◌then◌else◌, ℤ, pos, neg_ℤ, nat_abs, int_le, int_lt, List, [], ◌∷◌, length, Option, Some, None, Result, Ok}
 use Rattle.std.specs.List.{list_all}
 use Rattle.std.specs.Char.{is_ascii_digit}
 use Rattle.std.specs.Str.Parse.{digits_value}
 use Rattle.lie_script.specs.Fields.{Span, begins_with}
 use Rattle.lie_script.specs.Checks.{◌>>=◌, unless, each}
 use Rattle.lie_script.specs.declared.allowed.Allowed.{Allowed}
-use Rattle.lie_script.specs.declared.allowed.Allowed.TheVariants.{Within, SimpleOf, RootOf}
+use Rattle.lie_script.specs.declared.allowed.Allowed.TheVariants.{Within, SimpleOf, RootOf, ElementOf}
 use Rattle.lie_script.specs.declared.faults.FaultName.{FaultName}
-use Rattle.lie_script.specs.declared.faults.FaultName.TheVariants.{Number, Range, Root, Simple}
+use Rattle.lie_script.specs.declared.faults.FaultName.TheVariants.{Number, Range, Root, Simple, Value}
 use Rattle.lie_script.specs.declared.faults.Fault.{Fault}
 use Rattle.lie_script.specs.declared.faults.Fault.TheVariants.{At}
 
@@ -48,17 +48,23 @@ integer field = do
 abbrev pub is_within : ℤ → ℤ → ℤ → Bool
 is_within low high n = int_le low n && int_le n high
 
+-- the number of an element of a field of q elements: from 0, and below q
+abbrev pub is_element : ℕ → ℤ → Bool
+is_element q n = int_le (pos 0) n && int_lt n (pos q)
+
 -- the numbers that are allowed
 abbrev pub allows : Allowed → ℤ → Bool
 allows (Within low high) n = is_within low high n
 allows (SimpleOf l) n = is_within (pos 1) (pos l) n
 allows (RootOf m) n = nat_le 1 (nat_abs n) && nat_le (nat_abs n) m
+allows (ElementOf q) n = is_element q n
 
 -- the fault of the others
 abbrev pub fault_of : Allowed → FaultName
 fault_of (Within low high) = Range
 fault_of (SimpleOf l) = Simple
 fault_of (RootOf m) = Root
+fault_of (ElementOf q) = Value
 
 -- an allowed number
 unfoldable pub number : Allowed → Span → Result ℤ Fault

@@ -12,9 +12,9 @@ use Rattle.std.specs.Prelude.{ℕ, Bool, true, false, not, ◌||◌, nat_le, if�
 use Rattle.std.specs.Map.{lookup}
 use Rattle.lie_script.specs.Fields.{Span, fields_of, foreign_from, begins_with}
 use Rattle.lie_script.specs.Checks.{◌>>=◌, unless, found, none_at}
-use Rattle.lie_script.specs.Kinds.{field_line, datum_line, root_line, coroot_line, bare_line, word_line, constant_line, weyl_line}
+use Rattle.lie_script.specs.Kinds.{field_line, datum_line, root_line, coroot_line, bare_line, word_line, constant_line, weyl_line, row_line}
 use Rattle.lie_script.specs.Letters.{two_words}
-use Rattle.lie_script.specs.Modules.{module_line, matrix_line}
+use Rattle.lie_script.specs.Modules.{module_line, matrix_line, reduce_line}
 use Rattle.lie_script.specs.Names.{Listed}
 use Rattle.lie_script.specs.declared.faults.FaultName.TheVariants as fault
 use Rattle.lie_script.specs.declared.faults.Fault.{Fault}
@@ -33,7 +33,7 @@ keywords =
     (codes "field", keyword.Field) ∷ (codes "datum", keyword.Datum) ∷ (codes "root", keyword.Root)
     ∷ (codes "coroot", keyword.Coroot) ∷ (codes "collect", keyword.Collect) ∷ (codes "load", keyword.Load)
     ∷ (codes "form", keyword.Form) ∷ (codes "same", keyword.Same) ∷ (codes "mul", keyword.Mul) ∷ (codes "inv", keyword.Inv) ∷ (codes "roots", keyword.Roots) ∷ (codes "constant", keyword.Constant) ∷ (codes "weyl", keyword.Weyl)
-    ∷ (codes "module", keyword.Module) ∷ (codes "matrix", keyword.Matrix) ∷ []
+    ∷ (codes "module", keyword.Module) ∷ (codes "matrix", keyword.Matrix) ∷ (codes "reduce", keyword.Reduce) ∷ (codes "row", keyword.Row) ∷ []
 
 -- the word that the bytes spell
 unfoldable pub keyword_of : List ℕ → Option Keyword
@@ -47,6 +47,7 @@ is_command keyword.Root = false
 is_command keyword.Coroot = false
 is_command keyword.Collect = false
 is_command keyword.Load = false
+is_command keyword.Row = false
 is_command _ = true
 
 -- whether a word is awaited
@@ -58,6 +59,7 @@ begins keyword.Coroot wants.Coroot = true
 begins keyword.Collect wants.Load = true
 begins keyword.Load wants.Load = true
 begins word wants.Command = is_command word
+begins keyword.Row wants.Row = true
 begins _ _ = false
 
 -- the words whose lines are read with the field and the datum
@@ -92,6 +94,8 @@ own_line sizes listed keyword.Constant fields = constant_line sizes fields
 own_line sizes listed keyword.Weyl fields = weyl_line sizes fields
 own_line sizes listed keyword.Module fields = module_line sizes listed fields
 own_line sizes listed keyword.Matrix fields = matrix_line sizes listed fields
+own_line sizes listed keyword.Reduce fields = reduce_line listed fields
+own_line sizes listed keyword.Row fields = row_line sizes fields
 
 -- a line with a first field: its bytes, its word, whether a group is loaded, whether the word is awaited, its own checks
 unfoldable pub spoken : Wants → Sizes → Listed → List ℕ → Span → List Span → Result Line Fault

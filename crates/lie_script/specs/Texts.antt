@@ -35,6 +35,7 @@ name_of fault.Kind = codes "kind"
 name_of fault.Unknown = codes "unknown"
 name_of fault.Taken = codes "taken"
 name_of fault.Full = codes "full"
+name_of fault.Outside = codes "outside"
 name_of fault.Size = codes "size"
 name_of fault.End = codes "end"
 

@@ -9,4 +9,6 @@ pub enum Allowed {
     SimpleOf(usize),
     /// Signed numbers of so many positive roots and their opposites, counted from 1; else `root`.
     RootOf(usize),
+    /// Numbers of the elements of a field of so many elements; else `value`.
+    ElementOf(u32),
 }

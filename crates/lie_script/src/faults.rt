@@ -32,7 +32,7 @@ pub enum FaultName {
     Letter,
     /// The torus letter at a column has not d elements, or one that is 0.
     Torus,
-    /// The letter at a column has a number that no element has.
+    /// The number at a column, or one in the letter there, is that of no element.
     Value,
     /// The two roots are equal or opposite.
     Opposite,
@@ -46,6 +46,8 @@ pub enum FaultName {
     Taken,
     /// As many modules are there as may be.
     Full,
+    /// No word of the group has the matrix.
+    Outside,
     /// The dimension is not in 1..=8, or there are more simple roots than that.
     Size,
     /// The input ended before it may.

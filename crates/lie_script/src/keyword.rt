@@ -22,6 +22,8 @@ pub enum Keyword {
     Weyl,
     Module,
     Matrix,
+    Reduce,
+    Row,
 }
 
 impl Keyword {
@@ -31,7 +33,7 @@ impl Keyword {
     {
         match self {
             Keyword::Field | Keyword::Datum | Keyword::Root | Keyword::Coroot => false,
-            Keyword::Collect | Keyword::Load => false,
+            Keyword::Collect | Keyword::Load | Keyword::Row => false,
             _ => true,
         }
     }
@@ -47,6 +49,7 @@ impl Keyword {
             Wants::Coroot => self == Keyword::Coroot,
             Wants::Load => self == Keyword::Collect || self == Keyword::Load,
             Wants::Command => self.is_command(),
+            Wants::Row => self == Keyword::Row,
         }
     }
 }
@@ -86,6 +89,10 @@ pub(crate) fn keyword_of(bytes: &[u8]) -> Option<Keyword>
         Some(Keyword::Module)
     } else if bytes == b"matrix".as_slice() {
         Some(Keyword::Matrix)
+    } else if bytes == b"reduce".as_slice() {
+        Some(Keyword::Reduce)
+    } else if bytes == b"row".as_slice() {
+        Some(Keyword::Row)
     } else {
         None
     }

@@ -1,7 +1,7 @@
 //! The kinds of lines.
 ghost use Rattle.std.specs.Prelude.{◌≡◌, ◌∷◌, [], pos, true, All, ◌≤◌};
 ghost use Rattle.lie_script.specs.Checks.{Gives};
-ghost use Rattle.lie_script.specs.Kinds.{field_of as field_of_read, field_line as field_line_read, datum_line as datum_line_read, vector as vector_read, root_line as root_line_read, coroot_line as coroot_line_read, bare_line as bare_line_read, word_line as word_line_read, constant_line as constant_line_read, is_dash as lone_dash, weyl_line as weyl_line_read};
+ghost use Rattle.lie_script.specs.Kinds.{field_of as field_of_read, field_line as field_line_read, datum_line as datum_line_read, vector as vector_read, root_line as root_line_read, coroot_line as coroot_line_read, bare_line as bare_line_read, word_line as word_line_read, constant_line as constant_line_read, is_dash as lone_dash, weyl_line as weyl_line_read, row_line as row_line_read};
 ghost use Rattle.lie_script.specs.LineFields.{span, spans};
 ghost use Rattle.lie_script.specs.Numbers.{is_within, number as number_read};
 ghost use Rattle.lie_script.specs.Setting.{HasField, HasDatum};
@@ -221,4 +221,12 @@ pub(crate) fn weyl_line(
     }
     let indices = numbers(alloc, Allowed::SimpleOf(sizes.l), fields)?;
     Ok(Line::Weyl(Numbers::of(indices)))
+}
+
+/// `row e_1 .. e_n`.
+#[tactic(auto, unfolding(crate::specs::Kinds::row_line))]
+pub(crate) fn row_line(alloc: Global, sizes: &Sizes, fields: &[LineField<'_>]) -> Result<Line, Stop>
+    ensures { Gives (λ line. line) result (row_line_read sizes.now (spans fields.now)) }
+{
+    Ok(Line::Row(vector(alloc, sizes.dim, Allowed::ElementOf(sizes.q), fields)?))
 }

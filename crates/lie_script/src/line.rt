@@ -59,4 +59,10 @@ pub enum Line {
         name: Text,
         w: Word,
     },
+    /// The name of a module, of which a matrix is read from the `row` lines behind it.
+    Reduce {
+        name: Text,
+    },
+    /// The numbers of the elements of a row of a matrix, from left to right.
+    Row(Numbers),
 }

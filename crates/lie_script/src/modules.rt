@@ -3,7 +3,7 @@ ghost use Rattle.std.specs.Prelude.{◌≡◌, ◌≤◌, ◌+◌, length, IfOk}
 ghost use Rattle.std.specs.List.{list_all};
 ghost use Rattle.lie_script.specs.Checks.{Gives};
 ghost use Rattle.lie_script.specs.LineFields.{span, spans};
-ghost use Rattle.lie_script.specs.Modules.{is_lower as lower_letter, is_name_byte as name_byte, is_name as name_spelled, kind_of as kind_read, new_name as new_name_read, kind_line as kind_line_read, module_line as module_line_read, matrix_line as matrix_line_read};
+ghost use Rattle.lie_script.specs.Modules.{is_lower as lower_letter, is_name_byte as name_byte, is_name as name_spelled, kind_of as kind_read, new_name as new_name_read, kind_line as kind_line_read, module_line as module_line_read, matrix_line as matrix_line_read, reduce_line as reduce_line_read};
 ghost use Rattle.lie_script.specs.Setting.{HasField, HasDatum};
 
 use crate::allowed::Allowed;
@@ -195,5 +195,25 @@ pub(crate) fn matrix_line<N: Names>(
     Ok(Line::Matrix {
         name: text_of(alloc, name.bytes)?,
         w,
+    })
+}
+
+/// `reduce`: the name of a module.
+#[tactic(auto, unfolding(crate::specs::Modules::reduce_line))]
+pub(crate) fn reduce_line<N: Names>(
+    alloc: Global,
+    names: &N,
+    fields: &[LineField<'_>],
+) -> Result<Line, Stop>
+    ensures { Gives (λ line. line) result (reduce_line_read (N.listed names.now) (spans fields.now)) }
+{
+    let [name] = fields else {
+        return Err(Stop::Faulty(miscounted(fields.len())));
+    };
+    if names.dim_of(name.bytes).is_none() {
+        return Err(Stop::Faulty(Fault::At(FaultName::Unknown, name.column)));
+    }
+    Ok(Line::Reduce {
+        name: text_of(alloc, name.bytes)?,
     })
 }

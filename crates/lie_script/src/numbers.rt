@@ -95,6 +95,7 @@ impl Allowed {
             Allowed::Within(low, high) => low <= n && n <= high,
             Allowed::SimpleOf(l) => 1 <= n && n <= l as i128,
             Allowed::RootOf(m) => 1 <= n.unsigned_abs() && n.unsigned_abs() <= m as u128,
+            Allowed::ElementOf(q) => 0 <= n && n < q as i128,
         }
     }
 
@@ -105,6 +106,7 @@ impl Allowed {
             Allowed::Within(_, _) => FaultName::Range,
             Allowed::SimpleOf(_) => FaultName::Simple,
             Allowed::RootOf(_) => FaultName::Root,
+            Allowed::ElementOf(_) => FaultName::Value,
         }
     }
 }

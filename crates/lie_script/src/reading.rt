@@ -12,11 +12,12 @@ use crate::fields::{LineField, fields, foreign_column};
 use crate::kept::Numbers;
 use crate::keyword::{Keyword, keyword_of};
 use crate::kinds::{
-    bare_line, constant_line, coroot_line, datum_line, field_line, root_line, weyl_line, word_line,
+    bare_line, constant_line, coroot_line, datum_line, field_line, root_line, row_line, weyl_line,
+    word_line,
 };
 use crate::letters::two_words;
 use crate::line::Line;
-use crate::modules::{matrix_line, module_line};
+use crate::modules::{matrix_line, module_line, reduce_line};
 use crate::names::Names;
 use crate::sizes::{Sizes, Wants};
 use lie_datum::Datum;
@@ -95,6 +96,8 @@ fn own_line<N: Names>(
             let (field, datum) = both(field, datum);
             matrix_line(alloc, sizes, names, field, datum, spelled)
         }
+        Keyword::Reduce => reduce_line(alloc, names, spelled),
+        Keyword::Row => row_line(alloc, sizes, spelled),
     }
 }
 

@@ -10,6 +10,8 @@ pub enum Wants {
     /// `load`, or `collect` before it.
     Load,
     Command,
+    /// A row of the matrix of a `reduce` line.
+    Row,
 }
 
 /// The sizes of the field, the datum and the block that is read, each 0 where there is none.
