@@ -129,15 +129,7 @@ fn audited_for(
     answer: &mut Answer,
 ) -> Result<(), Stop> {
     let target = roots_of_row(alloc, said.datum)?;
-    audited_with(
-        alloc,
-        source,
-        made_with,
-        v,
-        &target.datum,
-        said,
-        answer,
-    )
+    audited_with(alloc, source, made_with, v, &target.datum, said, answer)
 }
 
 /// Audits the module of the orbit of v for this datum with the signs of a row.

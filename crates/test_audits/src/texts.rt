@@ -30,6 +30,15 @@ pub(crate) fn write(
     }
 }
 
+/// The word of what is told of covering, with the number of a root or of an axis.
+fn covering_words(found: &Result<(), CoverFault>) -> (&'static str, Option<i128>) {
+    match found {
+        Ok(()) => ("covering", None),
+        Err(CoverFault::Dead(r)) => ("dead", Some(i128::from(r.number()))),
+        Err(CoverFault::Uncovered(axis)) => ("uncovered", Some(*axis as i128)),
+    }
+}
+
 /// Writes whether a module is covering over a field, or the first root or axis for which it is not.
 fn write_covering(
     audited: &Audited,
@@ -39,16 +48,11 @@ fn write_covering(
 ) -> Result<(), Stop>
     requires { datum.now ≡ audited.now.datum }
 {
-    match audited.covering(field, datum) {
-        Ok(()) => answer.word("covering")?,
-        Err(CoverFault::Dead(r)) => {
-            answer.word("dead")?;
-            answer.number(i128::from(r.number()))?;
-        }
-        Err(CoverFault::Uncovered(axis)) => {
-            answer.word("uncovered")?;
-            answer.number(axis as i128)?;
-        }
+    let found = audited.covering(field, datum);
+    let (word, number) = covering_words(&found);
+    answer.word(word)?;
+    if let Some(n) = number {
+        answer.number(n)?;
     }
     Ok(())
 }
