@@ -1,8 +1,16 @@
-"""Works out the weights of carriers from the definitions alone, as rows for the crate test_modules.
+#!/usr/bin/env python3
+"""Works out the weights of carriers from the definitions alone.
+
+    python3 carriers.py                  rows for the crate test_modules
+    python3 carriers.py --transcripts    cases for crates/test_transcripts: each named datum loads over two and over three elements
+    python3 carriers.py --add            writes these cases there, in place of those that it wrote before
+    python3 carriers.py NAME             the lines `datum`, `root`, `coroot` of a named datum, as E_7
 
 The weights of the adjoint module, then for each axis the orbit of the weight that its unit vector lowers to, where that is
 not 0 and its orbit has not come before.
 """
+import os
+import sys
 
 LIMIT = 1024
 HEAVY = 1000000
@@ -85,9 +93,29 @@ def spelled(vectors):
     return " / ".join(" ".join(map(str, v)) for v in vectors) if vectors else "-"
 
 
-def e7():
-    bonds = {(1, 3), (3, 4), (2, 4), (4, 5), (5, 6), (6, 7)}
-    return [[2 if i == j else -int((i, j) in bonds or (j, i) in bonds) for j in range(1, 8)] for i in range(1, 8)]
+def cartan(kind, rank):
+    """The Cartan matrix of a type, numbered as in Bourbaki: row i has the pairings of the simple root i with the simple coroots."""
+    links = [(i, i + 1) for i in range(1, rank)]
+    if kind == "D":
+        links[-1] = (rank - 2, rank)
+    if kind == "E":
+        links = [(1, 3), (2, 4)] + [(i, i + 1) for i in range(3, rank)]
+    c = [[2 * int(i == j) - int((i, j) in links or (j, i) in links) for j in range(1, rank + 1)] for i in range(1, rank + 1)]
+    # a pairing of a long root with a short coroot
+    strong = {"B": (rank - 1, rank, -2), "C": (rank, rank - 1, -2), "F": (2, 3, -2), "G": (2, 1, -3)}
+    if kind in strong:
+        i, j, value = strong[kind]
+        c[i - 1][j - 1] = value
+    return c
+
+
+# The types with a name, and the ranks of each.
+NAMED = [("A", range(1, 9)), ("B", range(2, 7)), ("C", range(3, 7)), ("D", range(4, 7)), ("E", (6, 7)), ("F", (4,)), ("G", (2,))]
+
+
+def named(kind, rank):
+    """The datum of a type: the rows of its Cartan matrix are the simple roots, and the unit vectors the simple coroots."""
+    return rank, [tuple(row) for row in cartan(kind, rank)], [tuple(int(i == j) for j in range(rank)) for i in range(rank)]
 
 
 DATA = [
@@ -102,10 +130,60 @@ DATA = [
     (8, [tuple(i + int(k == i) for k in range(1, 8)) + (-9 * i - 1,) for i in range(1, 8)],
         [tuple(1 + 2 * int(k == i) for k in range(1, 9)) for i in range(1, 8)]),
     # E_7 with entries near 100, where weights are large
-    (8, [tuple(c - 98 for c in row) + (1,) for row in e7()], [tuple(int(k == j) for k in range(7)) + (98,) for j in range(7)]),
+    (8, [tuple(c - 98 for c in row) + (1,) for row in cartan("E", 7)], [tuple(int(k == j) for k in range(7)) + (98,) for j in range(7)]),
 ]
 
+HEADING = """\
+# Named data over two and over three elements, numbered as in Bourbaki: the rows of a Cartan matrix are the simple roots, and unit vectors
+# the simple coroots. Each loads, with the dimension of its carrier that bench/carriers.py works out: the roots, the rank, and the orbits of
+# the lowered unit vectors."""
+BEHIND = "# Relations. In each case the matrix lines stand in pairs"
+
+
+def lines(dim, simple, cosimple):
+    rows = [("root", v) for v in simple] + [("coroot", v) for v in cosimple]
+    return ["datum %d %d" % (dim, len(simple))] + [word + " " + " ".join(map(str, v)) for word, v in rows]
+
+
+def transcripts():
+    out = [HEADING]
+    for kind, ranks in NAMED:
+        for rank in ranks:
+            datum, name = named(kind, rank), "%s_%d" % (kind, rank)
+            roots = len(all_roots(*datum)[0])
+            out.append("\n".join(["script the named datum " + name] + ["> " + line for line in lines(*datum) + ["load"]]))
+            for p, g in ((2, 1), (3, 2)):
+                reply = "loaded %d %d %d %d" % (p, rank, roots, len(carrier(*datum)))
+                out.append(
+                    "case %s over %d\n> field %d 1 0 %d\nfrom the named datum %s\n< %s\nstatus Done" % (name, p, p, g, name, reply)
+                )
+    return "\n\n".join(out) + "\n"
+
+
+def add():
+    """Writes the cases into both files of the crate, before the cases of relations."""
+    for end in ("stdin", "stdout"):
+        path = os.path.join(os.path.dirname(os.path.abspath(__file__)), "..", "crates", "test_transcripts", end)
+        before, mark, last = open(path).read().partition(BEHIND)
+        assert mark
+        before = before.partition(HEADING)[0].rstrip("\n") + "\n"
+        with open(path, "w") as file:
+            file.write("\n\n".join([before, transcripts(), mark + last]))
+
+
+def main(words):
+    if words == ["--transcripts"]:
+        print(transcripts(), end="")
+    elif words == ["--add"]:
+        add()
+    elif words:
+        kind, rank = words[0].split("_")
+        print("\n".join(lines(*named(kind, int(rank)))))
+    else:
+        for dim, simple, cosimple in DATA:
+            print("datum: %d | %s | %s" % (dim, spelled(simple), spelled(cosimple)))
+            print("carrier: - = " + answer(carrier(dim, simple, cosimple)))
+
+
 if __name__ == "__main__":
-    for dim, simple, cosimple in DATA:
-        print("datum: %d | %s | %s" % (dim, spelled(simple), spelled(cosimple)))
-        print("carrier: - = " + answer(carrier(dim, simple, cosimple)))
+    main(sys.argv[1:])

@@ -13,10 +13,10 @@ ghost use Rattle.lie_identities.specs.Audit.{HasLightWeights};
 use lie_audit::{SignFault, signs as read_signs};
 use lie_const::{Constants, Signs};
 use lie_datum::{Datum, Vector};
-use lie_identities::{AuditFault, Audited, Rel, audit};
+use lie_identities::{AuditFault, Audited, audit};
 use lie_weight::{Module, ModuleFault};
 use std::alloc::Global;
-use test_rows::{Answer, Stop, constants, padded};
+use test_rows::{Stop, constants, padded};
 
 /// The adjoint module.
 fn made_adjoint(alloc: Global, datum: &Datum) -> Result<Module, Stop>
@@ -45,16 +45,21 @@ fn signs_of(alloc: Global, datum: &Datum, space: &Module) -> Result<Signs, SignF
 }
 
 /// Audits the adjoint module.
-pub(crate) fn audit_adjoint(alloc: Global, datum: &Datum, answer: &mut Answer) -> Result<(), Stop> {
+pub(crate) fn audited_adjoint(
+    alloc: Global,
+    datum: &Datum,
+) -> Result<Result<Audited, AuditFault>, Stop>
+    ensures { IfOk result (λ found. IfOk found (λ a. a.datum ≡ datum.now)) }
+{
     let consts = constants(alloc, datum)?;
     let space = adjoint(alloc, datum)?;
     let Ok(signs) = signs_of(alloc, datum, &space) else {
         return Err(Stop::NoQuestion);
     };
-    write(audited(alloc, datum, &consts, &signs, space), answer)
+    Ok(audited(alloc, datum, &consts, &signs, space))
 }
 
-/// `audit` with no clause of its answer.
+/// `audit` with one clause of its answer.
 fn audited(
     alloc: Global,
     datum: &Datum,
@@ -66,6 +71,7 @@ fn audited(
     requires signs { IsSignTable datum.now signs.now }
     requires shape { IsModule datum.now space }
     requires light { HasLightWeights space }
+    ensures { IfOk result (λ a. a.datum ≡ datum.now) }
 {
     audit(alloc, datum, consts, signs, space)
 }
@@ -142,87 +148,19 @@ fn moved(
 }
 
 /// Audits the module of an orbit of a datum for another, with other signs.
-pub(crate) fn audit_orbit(
+pub(crate) fn audited_orbit(
     alloc: Global,
     source: &Datum,
     made_with: &[i8],
     target: &Datum,
     table: &[i8],
     v: &[i128],
-    answer: &mut Answer,
-) -> Result<(), Stop> {
+) -> Result<Result<Audited, AuditFault>, Stop>
+    ensures { IfOk result (λ found. IfOk found (λ a. a.datum ≡ target.now)) }
+{
     let made_with = signs(alloc, source, made_with)?;
     let space = moved(alloc, source, &made_with, target, &weight(v)?)?;
     let consts = constants(alloc, target)?;
     let signs = signs(alloc, target, table)?;
-    write(audited(alloc, target, &consts, &signs, space), answer)
-}
-
-/// Writes an answer: the dimension, or the fault.
-fn write(found: Result<Audited, AuditFault>, answer: &mut Answer) -> Result<(), Stop> {
-    match found {
-        Ok(audited) => write_dimension(&audited, answer),
-        Err(fault) => write_fault(&fault, answer),
-    }
-}
-
-/// Writes the dimension of a module that is audited.
-fn write_dimension(audited: &Audited, answer: &mut Answer) -> Result<(), Stop> {
-    answer.word("audited, dimension")?;
-    Ok(answer.number(audited.module().dim() as i128)?)
-}
-
-/// Writes a fault.
-fn write_fault(fault: &AuditFault, answer: &mut Answer) -> Result<(), Stop> {
-    match fault {
-        AuditFault::NoMemory => Err(Stop::NoMemory),
-        AuditFault::Graded(r, k, row, col) => {
-            answer.word("not graded at")?;
-            let places = [
-                i128::from(r.number()),
-                i128::from(*k),
-                *row as i128,
-                *col as i128,
-            ];
-            Ok(answer.list(&places)?)
-        }
-        AuditFault::Large(rel) => {
-            answer.word("large")?;
-            write_rel(rel, answer)
-        }
-        AuditFault::Relation {
-            rel,
-            row,
-            col,
-            et,
-            eu,
-            left,
-            right,
-        } => {
-            write_rel(rel, answer)?;
-            answer.next(&[*row as i128, *col as i128])?;
-            answer.next(&[i128::from(*et), i128::from(*eu)])?;
-            Ok(answer.next(&[*left, *right])?)
-        }
-    }
-}
-
-/// Writes a relation.
-fn write_rel(rel: &Rel, answer: &mut Answer) -> Result<(), Stop> {
-    match rel {
-        Rel::S1(r) => named(answer, "S1", &[i128::from(r.number())]),
-        Rel::S2(r, s) => named(
-            answer,
-            "S2",
-            &[i128::from(r.number()), i128::from(s.number())],
-        ),
-        Rel::S6(i) => named(answer, "S6", &[*i as i128]),
-        Rel::S7(i, s) => named(answer, "S7", &[*i as i128, i128::from(s.number())]),
-    }
-}
-
-/// Writes the name of a relation, and what it is about.
-fn named(answer: &mut Answer, name: &str, list: &[i128]) -> Result<(), Stop> {
-    answer.word(name)?;
-    Ok(answer.list(list)?)
+    Ok(audited(alloc, target, &consts, &signs, space))
 }

@@ -3,10 +3,12 @@
 //! The stored output was worked out by hand from the relations, never by this program; so a wrong value is a difference
 //! of text. Rows are those of `test_rows`. A module is made for the last row `made for`, with the signs of the last row
 //! `made with`, and is audited for the last rows `datum` and `signs`; an adjoint module has the signs that are read off it.
+//! Behind a row `field` an answer says too whether the module is covering over it.
 #![tactic(auto)]
 
 mod audits;
 mod questions;
+mod texts;
 
 use crate::questions::answers;
 use std::io;

@@ -1,6 +1,7 @@
 //! The question of a row, by its words.
 
-use crate::audits::{audit_adjoint, audit_orbit};
+use crate::audits::{audited_adjoint, audited_orbit};
+use crate::texts::write;
 use lie_datum::Datum;
 use std::alloc::{AllocError, Global};
 use test_rows::{Answer, Stop, read_lists, roots_of_row, row};
@@ -12,6 +13,7 @@ pub(crate) struct Said<'a> {
     made_with: &'a str,
     datum: &'a str,
     signs: &'a str,
+    field: &'a str,
 }
 
 /// The lines with their answers.
@@ -22,6 +24,7 @@ pub(crate) fn answers(alloc: Global, lines: &[String]) -> Result<Vec<String>, Al
         made_with: "",
         datum: "",
         signs: "",
+        field: "",
     };
     for line in lines {
         said = Said {
@@ -29,6 +32,7 @@ pub(crate) fn answers(alloc: Global, lines: &[String]) -> Result<Vec<String>, Al
             made_with: newest(line, "made with", said.made_with),
             datum: newest(line, "datum", said.datum),
             signs: newest(line, "signs", said.signs),
+            field: newest(line, "field", said.field),
         };
         answers.push(with_answer(alloc, said, line)?)?;
     }
@@ -58,11 +62,27 @@ fn answered(alloc: Global, said: Said, line: &str) -> Result<String, Stop> {
     };
     let mut answer = Answer::new(alloc)?;
     match question {
-        "adjoint" => audit_adjoint(alloc, &roots_of_row(alloc, text)?.datum, &mut answer)?,
+        "adjoint" => about_adjoint(
+            alloc,
+            &roots_of_row(alloc, text)?.datum,
+            said.field,
+            &mut answer,
+        )?,
         "orbit" => about_orbit(alloc, said, text, &mut answer)?,
         _ => return Ok(String::new(alloc)),
     }
     Ok(answer.text())
+}
+
+/// Audits the adjoint module of a datum.
+fn about_adjoint(
+    alloc: Global,
+    datum: &Datum,
+    field: &str,
+    answer: &mut Answer,
+) -> Result<(), Stop> {
+    let found = audited_adjoint(alloc, datum)?;
+    write(alloc, &found, datum, field, answer)
 }
 
 /// Audits the module of an orbit.
@@ -109,15 +129,7 @@ fn audited_for(
     answer: &mut Answer,
 ) -> Result<(), Stop> {
     let target = roots_of_row(alloc, said.datum)?;
-    audited_with(
-        alloc,
-        source,
-        made_with,
-        v,
-        &target.datum,
-        said.signs,
-        answer,
-    )
+    audited_with(alloc, source, made_with, v, &target.datum, said, answer)
 }
 
 /// Audits the module of the orbit of v for this datum with the signs of a row.
@@ -127,11 +139,12 @@ fn audited_with(
     made_with: &[i8],
     v: &[i128],
     target: &Datum,
-    signs: &str,
+    said: Said,
     answer: &mut Answer,
 ) -> Result<(), Stop> {
-    let signs = signs_of(alloc, signs)?;
-    audit_orbit(alloc, source, made_with, target, &signs, v, answer)
+    let signs = signs_of(alloc, said.signs)?;
+    let found = audited_orbit(alloc, source, made_with, target, &signs, v)?;
+    write(alloc, &found, target, said.field, answer)
 }
 
 /// The signs of a row: 1 and -1.

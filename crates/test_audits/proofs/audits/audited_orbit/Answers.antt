@@ -1,4 +1,4 @@
-use Rattle.test_audits.proofs.audits.audit_orbit.Goals as goal
+use Rattle.test_audits.proofs.audits.audited_orbit.Goals as goal
 
 pub moved-requires : goal.moved-requires
 moved-requires c = record { signs = c.in_ok-made_with.ensures; v = c.in_ok-weight.ensures }

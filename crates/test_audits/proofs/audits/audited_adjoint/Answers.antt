@@ -1,4 +1,4 @@
-use Rattle.test_audits.proofs.audits.audit_adjoint.Goals as goal
+use Rattle.test_audits.proofs.audits.audited_adjoint.Goals as goal
 
 pub signs_of-requires : goal.signs_of-requires
 signs_of-requires c = c.in_ok-space.ensures.adjoint
