@@ -16,8 +16,9 @@ TOP = os.path.dirname(os.path.dirname(os.path.abspath(__file__)))
 CASES = os.path.join(TOP, "crates", "test_transcripts", "stdin")
 PAGES = ["README.md", "docs/TOUR.md"]
 HEADING = "# The sessions of README.md and of docs/TOUR.md, as docs/blocks.py --add writes them."
-# words of lines that have no reply when they are accepted
-QUIET = ("field", "datum", "root", "coroot")
+# words of lines that have no reply when they are accepted, and of those that have one only as the last of a block
+QUIET = ("field", "datum", "root", "coroot", "reduce")
+LAST = ("row",)
 STATUS = ["Done", "Refused", "Usage", "LoadRefused"]
 
 
@@ -41,8 +42,9 @@ class Session:
     def faults(self):
         """Lines that have a reply where none can be, or none where one must be."""
         for line, lines in self.steps:
-            is_quiet = line.split(" ")[0] in QUIET or not line.strip() or line.startswith("#")
-            if bool(lines) == is_quiet and not (is_quiet and lines[0].startswith("refused ")):
+            word = line.split(" ")[0]
+            is_quiet = word in QUIET or not line.strip() or line.startswith("#")
+            if word not in LAST and bool(lines) == is_quiet and not (is_quiet and lines[0].startswith("refused ")):
                 yield f"{self.page}, {self.title}: {line}"
 
     def case(self):
