@@ -4,7 +4,7 @@ ghost use Rattle.std.specs.Prelude.{◌≡◌, ℕ, List, IfOk, reverse};
 ghost use Rattle.lie_ring.specs.Matrices.{AllElem};
 ghost use Rattle.lie_field.specs.FieldRing.{field_ring};
 ghost use Rattle.lie_weyl.specs.WeylElement.{Spells};
-ghost use Rattle.lie_const.specs.Modules.{IsModule};
+ghost use Rattle.lie_const.specs.Modules.{IsModule, dimension};
 ghost use Rattle.lie_const.specs.Signs.{eta_of};
 ghost use Rattle.lie_letters.specs.SignedFrames.{unsigned};
 ghost use Rattle.lie_letters.specs.Spelled.{IsWordOver};
@@ -12,7 +12,9 @@ ghost use Rattle.lie_unip.specs.Forms.{IsForm, IsFormOf};
 ghost use Rattle.lie_bruhat.specs.Products.{IsProduct, IsInverse};
 ghost use Rattle.lie_identities.specs.Audit.{Audits, HasLightWeights};
 ghost use Rattle.lie_identities.specs.Audited.{audited_module};
+ghost use Rattle.lie_identities.specs.Covers.{IsCovering};
 ghost use Rattle.lie_audit.specs.WordMatrix.{word_matrix as matrix_of_word};
+ghost use Rattle.lie_reduce.specs.Reduction.{Reduces};
 ghost use Rattle.lie_group.specs.Groups.{IsAuditedFor, IsGroup, LoadsGroup};
 
 use crate::carriers::{audited_carrier, test_covering};
@@ -21,6 +23,7 @@ use lie_audit::{AuditFault, Audited, audit, word_matrix};
 use lie_bruhat::{form, inv, mul};
 use lie_dense::Dense;
 use lie_letters::{Frame, Word};
+use lie_reduce::reduce;
 use lie_unip::Form;
 use lie_weight::Module;
 use std::alloc::{AllocError, Global};
@@ -129,5 +132,22 @@ impl Group {
     {
         let Frame { field, datum, .. } = &self.frame;
         word_matrix(alloc, field, datum, space.module(), w)
+    }
+
+    /// The form whose word has the matrix m on a module that is audited for the group and covering;
+    /// None exactly where no word has it.
+    pub fn reduce(
+        &self,
+        alloc: Global,
+        space: &Audited,
+        m: &Dense,
+    ) -> Result<Option<Form>, AllocError>
+        requires audited { IsAuditedFor self.now.frame space.now }
+        requires covering { IsCovering self.now.frame.field self.now.frame.datum space.now.module }
+        requires dimension { m.now.height ≡ dimension space.now.module }
+        requires elem { AllElem (field_ring self.now.frame.field) m.now }
+        ensures { IfOk result (Reduces self.now.frame space.now.module m.now) }
+    {
+        reduce(alloc, &self.frame, space, m)
     }
 }
