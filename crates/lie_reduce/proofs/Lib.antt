@@ -31,3 +31,10 @@ pub mod LevelSums
 pub mod SortedPlaces
 pub mod PivotForms
 pub mod PivotImages
+pub mod TorusValues
+pub mod TorusSteps
+pub mod LevelFactorLemmas
+pub mod FormReadingLemmas
+pub mod TorusLoops
+pub mod ReversedWords
+pub mod FullLetters

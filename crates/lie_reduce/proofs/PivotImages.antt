@@ -109,7 +109,7 @@ module _ (f : SignedFrame) (v : Module) (ground : IsCoveringFor f v) (ps at : Li
   pub pivots-answer : ArePivots f.field T at → (images : List ℤ) → AreImages f.field f.datum v ps at (rank f.datum.base) images → (answer : Option (List ℤ))
       → MatchOption answer (¬ IsElement f.datum images) (λ w. (w ≡ images) × IsElement f.datum w) → HasPivots f v M answer
   pivots-answer p images g None h = no-word (λ x k. (let s = some_shortest f ground.lawful x k.form in h (subst (IsElement d) (images-are x k s.0 s.1 p images g) k.form.element)))
-  pivots-answer p images g (Some w) h = λ x k. (let s = some_shortest f ground.lawful x k.form in images-are x k s.0 s.1 p images g ∙ sym h.0)
+  pivots-answer p images g (Some w) h = (h.1, λ x k. (let s = some_shortest f ground.lawful x k.form in images-are x k s.0 s.1 p images g ∙ sym h.0))
 
 -- the table has elements as entries
 pub sorted-elem : (f : SignedFrame) (v : Module) (ground : IsCoveringFor f v) (ps : List ℕ) (o : AreInOrder f.datum v ps) (M T : Matrix ℕ) → IsSquare (field_ring f.field) (dimension v) M

@@ -25,7 +25,7 @@ module _ {A : Type 0} (R : RingOn A) (ring : IsRing R) (d : RootDatum) (v : Modu
   s i = get_or ps i 0
 
   -- places in different positions are different
-  distinct : (i j : ℕ) → i < dimension v → j < dimension v → i ≢ j → get_or ps i 0 ≢ get_or ps j 0
+  pub distinct : (i j : ℕ) → i < dimension v → j < dimension v → i ≢ j → get_or ps i 0 ≢ get_or ps j 0
   distinct i j p q h e = ⊎_elim
       (λ (less : i < j). o.apart i j less q e)
       (λ (more : j ≤ i). o.apart j i (omega (arith, more, h)) p (sym e))

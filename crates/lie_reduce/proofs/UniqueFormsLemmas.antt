@@ -245,7 +245,7 @@ module _ (f : SignedFrame) (v : Module) (ground : IsCoveringFor f v) (equal : Eq
     torus-over : IsWordOver (unsigned f) (H x.torus ∷ [])
     torus-over = ((is.long, is.units), tt)
 
-    weyl-over : IsWordOver (unsigned f) (map N p)
+    pub weyl-over : IsWordOver (unsigned f) (map N p)
     weyl-over = weyl_word p word
       where
         weyl_word : (w : List ℕ) → IsWord f.datum.base w → IsWordOver (unsigned f) (map N w)
@@ -271,15 +271,15 @@ module _ (f : SignedFrame) (v : Module) (ground : IsCoveringFor f v) (equal : Eq
         (weyl.words F d f.constants (eta_of f.signs) v loaded ground.audited p short.0.letters)
 
     -- n_w v n_w^-1 is a word of negative roots
-    below : TurnedWord f.field f.datum loaded f.constants (eta_of f.signs) v ground.audited (IsDown f.datum) p (letters_from 1 x.second)
+    pub below : TurnedWord f.field f.datum loaded f.constants (eta_of f.signs) v ground.audited (IsDown f.datum) p (letters_from 1 x.second)
     below = turned_word F d loaded f.constants (eta_of f.signs) v ground.audited (IsTurnedDown d p) (IsDown d) p word
         (λ k l a t b e up. t.1 (subst IsPositive e up)) second (list-turned f loaded x is p short.0)
 
-    lower : IsUnipotent (field_ring f.field) (dimension v) fall (word_matrix f.field v below.word) (word_matrix f.field v (reversed f.field below.word))
+    pub lower : IsUnipotent (field_ring f.field) (dimension v) fall (word_matrix f.field v below.word) (word_matrix f.field v (reversed f.field below.word))
     lower = unipotent (IsDown d) fall (falls d loaded v ground.audited.graded) below.word below.letters
 
     -- u (h (n_w v n_w^-1)) n_w
-    turned-parts : word_matrix f.field v (form_word x p)
+    pub turned-parts : word_matrix f.field v (form_word x p)
         ≡ product (field_ring f.field) (product (field_ring f.field) (word_matrix f.field v first) (product (field_ring f.field) (torus_element f.field v x.torus) (word_matrix f.field v below.word))) (word_matrix f.field v (map N p))
     turned-parts =
         let U = matrix first in

@@ -8,3 +8,5 @@ pub mod Reduction
 pub mod PeelSteps
 pub mod Pivots
 pub mod Places
+pub mod TorusReading
+pub mod FormReading

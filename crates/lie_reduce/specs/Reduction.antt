@@ -13,6 +13,7 @@ use Rattle.lie_letters.specs.declared.letter.Letter.{Letter}
 use Rattle.lie_letters.specs.RingLetters.{RingLetter, IsRingWord, full_word}
 use Rattle.lie_letters.specs.SignedFrames.{SignedFrame, unsigned}
 use Rattle.lie_letters.specs.Spelled.{IsWordOver, root_letters}
+use Rattle.lie_weyl.specs.WeylElement.{IsElement}
 use Rattle.lie_unip.specs.Collection.{AreEntries}
 use Rattle.lie_unip.specs.Forms.{FormData, IsForm, IsShortest, form_word}
 use Rattle.lie_identities.specs.Audited.{AuditedModule}
@@ -50,9 +51,9 @@ pub record HasFormMatrix (f : SignedFrame) (v : Module) (x : FormData) (M : Matr
 abbrev pub IsNoWordMatrix : SignedFrame → Module → Matrix ℕ → Type 0
 IsNoWordMatrix f v M = (w : List Letter) → IsWordOver (unsigned f) w → word_matrix f.field v w ≢ M
 
--- what `pivots` answers: the Weyl element of each form with the matrix M, or that M is the matrix of no word
+-- what `pivots` answers: a Weyl element, which is that of each form with the matrix M, or that M is the matrix of no word
 abbrev pub HasPivots : SignedFrame → Module → Matrix ℕ → Option (List ℤ) → Type 0
-HasPivots f v M (Some w) = (x : FormData) → HasFormMatrix f v x M → x.weyl ≡ w
+HasPivots f v M (Some w) = IsElement f.datum w × ((x : FormData) → HasFormMatrix f v x M → x.weyl ≡ w)
 HasPivots f v M None = IsNoWordMatrix f v M
 
 -- what `reduce` answers: the form whose word has the matrix M, or that M is the matrix of no word

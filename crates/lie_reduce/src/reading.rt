@@ -39,7 +39,7 @@ fn fill_row(m: &Dense, places: &[usize], next: &mut Dense, row: usize)
 }
 
 /// The matrix with its rows and columns in the order of the places.
-fn sorted(alloc: Global, m: &Dense, places: &[usize]) -> Result<Dense, AllocError>
+pub(crate) fn sorted(alloc: Global, m: &Dense, places: &[usize]) -> Result<Dense, AllocError>
     requires { ArePlaces m.now.height places.now }
     ensures { IfOk result (λ x. x ≡ table m.now.height m.now.height (sorted_entry m.now places.now)) }
 {
