@@ -8,6 +8,7 @@ pub mod ChangeLemmas
 pub mod StatusLemmas
 pub mod LoadedLemmas
 pub mod GroupLemmas
+pub mod BlockLemmas
 pub mod OneWordLemmas
 pub mod OneReduction
 pub mod PrintedLemmas

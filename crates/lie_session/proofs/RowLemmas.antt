@@ -5,7 +5,6 @@ use Rattle.std.specs.List.{AllByRecursion, range_with_len}
 use Rattle.std.proofs.lemmas.List.{ext_get_or}
 use Rattle.std.proofs.lemmas.List.Elements.{All-from_recursion}
 use Rattle.std.proofs.lemmas.List.FromFn.{get_or-map-range_with_len, length-map-range_with_len}
-use Rattle.std.proofs.lemmas.Option.{unwrap_or-slice_get}
 use Rattle.lie_ring.specs.Matrices.{table, entry}
 use Rattle.lie_session.specs.Outcomes.{matrix_of}
 
@@ -15,7 +14,7 @@ listed d xs n long =
     ext_get_or d (map (λ i. slice_index_or xs i d) (range_with_len 0 n)) xs (length-map-range_with_len (λ i. slice_index_or xs i d) 0 n ∙ sym long)
     (λ i within.
     (let low : i < n = subst (λ k. i < k) (length-map-range_with_len (λ i. slice_index_or xs i d) 0 n) within in
-    get_or-map-range_with_len (λ i. slice_index_or xs i d) 0 n i i d low (omega arith) ∙ unwrap_or-slice_get xs i d))
+    get_or-map-range_with_len (λ i. slice_index_or xs i d) 0 n i i d low (omega arith)))
 
 -- all rows have one length
 pub row_length : (n : ℕ) (rows : List (List ℕ)) (i : ℕ) → AllByRecursion (λ r. length r ≡ n) rows → i < length rows → length (slice_index_or rows i []) ≡ n
@@ -33,4 +32,4 @@ table_rows n rows long h = ap (matrix_of n) same where
       (λ i within.
       (let low : i < n = subst (λ k. i < k) (length-map-range_with_len row 0 n) within in
       let inside : i < length rows = subst (λ k. i < k) (sym long) low in
-      get_or-map-range_with_len row 0 n i i [] low (omega arith) ∙ listed 0 (slice_index_or rows i []) n (row_length n rows i h inside) ∙ unwrap_or-slice_get rows i []))
+      get_or-map-range_with_len row 0 n i i [] low (omega arith) ∙ listed 0 (slice_index_or rows i []) n (row_length n rows i h inside)))

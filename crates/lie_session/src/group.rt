@@ -353,6 +353,7 @@ impl LoadedGroup {
             return Ok(None);
         };
         let frame = self.group.frame();
+        frame.datum.loaded();
         space.covering(&frame.field, &frame.datum)?;
         self.block = Some(Block::begun(alloc, name)?);
         Ok(None)
