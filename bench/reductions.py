@@ -1,13 +1,18 @@
 #!/usr/bin/env python3
 """Matrices, and the forms of the words that have them: outside values for the lines `reduce` and `row`, by matrices alone (forms.py).
 
-    python3 reductions.py --transcripts      cases for crates/test_transcripts
+    python3 reductions.py                    cases for crates/test_transcripts
     python3 reductions.py --add              writes these cases there, in place of those that it wrote before
+    python3 reductions.py --check            compares these cases with those there
 
 For each of SL_3 on two modules, GL_3, Sp_4 and G_2, over two to five elements, there are matrices of fifteen random words, and fifteen that
-no word has: one entry of a word's matrix changed, or a row or a column doubled or made 0, two rows exchanged, a multiple of a word's
+no word has: one entry of a word's matrix changed, or a row or a column multiplied or made 0, two rows exchanged, a multiple of a word's
 matrix, a transposed one, the matrix of zeros. A matrix is that of a word exactly if for some Weyl element it comes apart into the factors
 of a form whose word has it.
+
+Beside that stands what the classical groups are: a matrix is in GL_3 exactly if its determinant isn't 0, in SL_3 exactly if it is 1, and in
+Sp_4 exactly if it keeps the bilinear form that the letters of roots keep. Each matrix of these groups is decided in both ways. For GL_3 and
+SL_3 eight random matrices with such a determinant come beside those of words.
 """
 import os
 import sys
@@ -30,47 +35,9 @@ NAMES, ORDERS, COUNT = ("SL3 by its first module", "SL3 by its second module", "
 HEADING = """\
 # Matrices of random words, and matrices that no word has, by bench/reductions.py: each matrix is taken apart into triangular factors and
 # n_w for each Weyl element, and is that of a word exactly if the word of a form that is found so has it."""
-MARK = "# The sessions of README.md and of docs/TOUR.md"
 
 BY_HAND = """\
-# Words from matrices. The line reduce asks for the rows of a matrix on a module that is covering.
-
-case the matrix of n1 on the natural module of SL2
-from SL2 over 5
-> module nat orbit 1
-> matrix nat n1
-> reduce nat
-> row 0 1
-> row 4 0
-< module nat 2
-< 0 1
-< 4 0
-< - | 1 | 1 | -
-status Done
-
-case outside: a scalar that isn't in the torus
-from SL2 over 5
-> module nat orbit 1
-> reduce nat
-> row 2 0
-> row 0 2
-< module nat 2
-< refused 9 outside
-status Refused
-
-case uncovered: the weights of the adjoint module of SL2 are even
-from SL2 over 5
-> module adj adjoint
-> matrix adj x1(1)
-> reduce adj
-> row 1 0 0
-< module adj 3
-< 1 3 4
-< 0 1 1
-< 0 0 1
-< refused 8 uncovered 1
-< refused 9 order
-status Refused
+# More of the lines reduce and row, by hand.
 
 case a product in SL3, and a permutation
 from SL3 over 3
@@ -99,24 +66,6 @@ from SL3 over 3
 < - | 1 1 | 2 1 | -
 < x1(1) x2(1) x3(2) | 1 1 | - | -
 < - | 2 1 | - | -
-status Done
-
-case a usual session in GL2
-from GL2 over 3
-> module nat orbit 1 0
-> reduce nat
-> row 2 0
-> row 0 1
-> reduce nat
-> row 1 1
-> row 1 2
-> matrix nat x1(1) h(2,2) n1 x1(2)
-< loaded 3 2 2 5
-< module nat 2
-< - | 2 1 | - | -
-< x1(1) | 2 2 | 1 | x1(2)
-< 1 1
-< 1 2
 status Done
 
 case outside: determinants of SL2, and a matrix of it
@@ -186,25 +135,6 @@ from torus over 5
 < - | 3 | - | -
 status Refused
 
-case end in a block
-from SL2 over 5
-> module nat orbit 1
-> reduce nat
-> row 0 1
-< loaded 5 1 2 5
-< module nat 2
-< refused 8 end
-status Refused
-
-case end behind the line reduce
-from SL2 over 5
-> module nat orbit 1
-> reduce nat\\e
-< loaded 5 1 2 5
-< module nat 2
-< refused 7 end
-status Refused
-
 case order: a command drops a block
 from SL2 over 5
 > module nat orbit 1
@@ -262,30 +192,118 @@ from SL2 over 5
 < - | 1 | 1 | -
 status Refused
 
-case fields of reduce, unknown names, and a row outside a block
+case blocks dropped by lines that are too long, that have a foreign byte, and that aren't awaited
 from SL2 over 5
-> reduce
-> reduce nat nat
+> module nat orbit 1
+> reduce nat
+> row\\{ *65530} 0 1
+> row 0 1
 > reduce nat
 > row 0 1
+> #\\{#*65536}
+> row 4 0
+> reduce nat
+> row 0\\x0C1
+> row 0 1
+> reduce nat
+> # \\x80
+> row 0 1
+> row 4\\x000
+> row 4 0
+> reduce nat
+> load
+> row 0 1
+> reduce nat
+> matrix nat
+> row 0 1
+> reduce nat
+> collect 1
+> row 0 1
+> reduce nat
+> roots
+> roots
 < loaded 5 1 2 5
-< refused 6 fields 0
-< refused 7 fields 2
-< refused 8 unknown 8
+< module nat 2
+< refused 8 long
 < refused 9 order
+< refused 12 long
+< refused 13 order
+< refused 15 byte 6
+< refused 16 order
+< refused 20 byte 6
+< refused 21 order
+< refused 23 order
+< refused 24 order
+< refused 26 order
+< refused 27 order
+< refused 29 order
+< refused 30 order
+< refused 32 order
+< roots 1
+< 1 1 | 2 | 1
 status Refused
 
-case order: a row before load
-from five
-> row 1
-< refused 2 order
-status LoadRefused
-
-case unloaded: reduce before load
-from five
+case end: behind one row too few, and a remark without a line feed
+from SL2 over 5
+> module nat orbit 1
 > reduce nat
-< refused 2 unloaded
-status LoadRefused
+> row 0 1
+> row 4 0
+> reduce nat
+> row 0 1
+> # a remark\\e
+< loaded 5 1 2 5
+< module nat 2
+< - | 1 | 1 | -
+< refused 12 end
+status Refused
+
+case a last row without a line feed
+from SL2 over 5
+pieces of 1
+> module nat orbit 1
+> reduce nat
+> row 0 1
+> row 4 0\\e
+< loaded 5 1 2 5
+< module nat 2
+< - | 1 | 1 | -
+status Done
+
+case uncovered 2: the second factor of PGL2 and SL2, on the adjoint module
+from five
+> datum 2 2
+> root 1 0
+> root 0 2
+> coroot 2 0
+> coroot 0 1
+> load
+> module adj adjoint
+> reduce adj
+< loaded 5 2 4 8
+< module adj 6
+< refused 9 uncovered 2
+status Refused
+
+case uncovered: the root lattice of SL3 has index 3
+from SL3 over 3
+> module adj adjoint
+> reduce adj
+< loaded 3 2 6 14
+< module adj 8
+< refused 9 uncovered 1
+status Refused
+
+case dead before uncovered: no root of SL2 acts on a module of one dimension
+from SL2 over 5
+> module one orbit 0
+> reduce one
+> row 1
+< loaded 5 1 2 5
+< module one 1
+< refused 7 dead 1
+< refused 8 order
+status Refused
 """
 
 
@@ -294,6 +312,63 @@ def form_with(g, matrix):
     found = [form for form in filter(None, (g.form_at(w, matrix) for w in g.elements)) if g.matrix(g.form_word(form)) == matrix]
     assert len(found) <= 1
     return found[0] if found else None
+
+
+def transposed(matrix):
+    return [list(row) for row in zip(*matrix)]
+
+
+def determinant(f, matrix):
+    """By the first row."""
+    if not matrix:
+        return 1
+    found = 0
+    for k, a in enumerate(matrix[0]):
+        minor = determinant(f, [row[:k] + row[k + 1 :] for row in matrix[1:]])
+        found = f.add[found][f.mul[a][minor if k % 2 == 0 else f.neg[minor]]]
+    return found
+
+
+def kernel(f, rows, size):
+    """A basis of the vectors of this size on which all rows are 0."""
+    reduced = {}
+    for row in rows:
+        for k, other in reduced.items():
+            row = [f.add[x][f.mul[f.neg[row[k]]][y]] for x, y in zip(row, other)]
+        lead = next((k for k, x in enumerate(row) if x), None)
+        if lead is not None:
+            row = [f.mul[f.power(row[lead], -1)][x] for x in row]
+            for k, other in reduced.items():
+                reduced[k] = [f.add[x][f.mul[f.neg[other[lead]]][y]] for x, y in zip(other, row)]
+            reduced[lead] = row
+    free = [k for k in range(size) if k not in reduced]
+    return [[1 if j == k else f.neg[reduced[j][k]] if j in reduced else 0 for j in range(size)] for k in free]
+
+
+def kept_form(g):
+    """The bilinear form, one alone but for multiples, that the letters of all roots keep."""
+    f, size, rows = g.field, len(g.weights), []
+    for r in range(2 * g.datum.m):
+        m = g.matrix([("x", r, 1)])
+        for a, b in product(range(size), repeat=2):
+            row = [f.mul[m[i][a]][m[j][b]] for i, j in product(range(size), repeat=2)]
+            row[a * size + b] = f.add[row[a * size + b]][f.neg[1]]
+            rows.append(row)
+    (found,) = kernel(f, rows, size * size)
+    return [found[k * size : (k + 1) * size] for k in range(size)]
+
+
+def membership(name, g):
+    """Whether a matrix is in the classical group, by what this group is; None for G_2."""
+    if name == "GL3":
+        return lambda m: determinant(g.field, m) != 0
+    if name.startswith("SL3"):
+        return lambda m: determinant(g.field, m) == 1
+    if name == "Sp4":
+        form = kept_form(g)
+        assert determinant(g.field, form)
+        return lambda m: g.times(transposed(m), g.times(form, m)) == form
+    return None
 
 
 def changes(g, draw, matrix):
@@ -315,16 +390,17 @@ def changes(g, draw, matrix):
     exchanged[a], exchanged[b] = exchanged[b], exchanged[a]
     return [
         entry, scaled, column, zero, twice, exchanged, [[mul[unit][x] for x in row] for row in matrix],
-        [list(row) for row in zip(*matrix)], [[0] * size for _ in matrix], [list(reversed(row)) for row in matrix],
+        transposed(matrix), [[0] * size for _ in matrix], [list(reversed(row)) for row in matrix],
     ]  # fmt: skip
 
 
-def matrices(g, draw):
-    """Matrices of random words and as many that no word has, by turns, with the form or None."""
-    kind = 0
+def matrices(name, g, draw):
+    """Matrices of random words and as many that no word has, by turns, with the form or None; and random matrices of GL_3 and SL_3."""
+    kind, size, is_member = 0, len(g.weights), membership(name, g)
     for k in range(COUNT):
         word = random_word(g, draw, 1 + k)
         matrix = g.matrix(word)
+        assert is_member is None or is_member(matrix)
         yield matrix, g.form_of(matrix)
         while True:
             if kind % 20 == 19:
@@ -332,9 +408,17 @@ def matrices(g, draw):
             changed = changes(g, draw, g.matrix(word))
             found = changed[kind % len(changed)]
             kind += 1
-            if form_with(g, found) is None:
+            form = form_with(g, found)
+            assert is_member is None or is_member(found) == (form is not None)
+            if form is None:
                 yield found, None
                 break
+    more = 8 if size == 3 else 0
+    while more:
+        matrix = [[draw.randrange(g.field.q) for _ in range(size)] for _ in range(size)]
+        if is_member(matrix):
+            yield matrix, g.form_of(matrix)
+            more -= 1
 
 
 def random_cases():
@@ -346,7 +430,7 @@ def random_cases():
         lines += ["root " + text(v) for v in d.simple] + ["coroot " + text(v) for v in d.cosimple] + ["load"]
         lines.append("module v " + ("orbit " + text(weight) if weight else "adjoint"))
         replies = [g.loaded(), "module v %d" % len(g.weights)]
-        for matrix, form in matrices(g, draw):
+        for matrix, form in matrices(name, g, draw):
             lines += ["reduce v"] + ["row " + text(row) for row in matrix]
             replies.append(g.text(form) if form else "refused %d outside" % len(lines))
         given = ["case matrices of %s over %d" % (name, order)] + ["> " + line for line in lines]
@@ -371,17 +455,37 @@ def transcripts():
     return by_hand() + "\n\n" + random_cases()
 
 
-def add():
-    """Writes the cases into both files of the crate, before the last block, which docs/blocks.py writes."""
+def files():
+    """Both files of the crate, each with what it is with these cases: they stand before those of forms.py."""
     block, first = transcripts(), BY_HAND.partition("\n")[0]
     for end in ("stdin", "stdout"):
         path = os.path.join(os.path.dirname(os.path.abspath(__file__)), "..", "crates", "test_transcripts", end)
-        before, mark, last = open(path).read().partition(MARK)
+        with open(path, encoding="ascii") as file:
+            stored = file.read()
+        before, mark, last = stored.partition(forms.HEADINGS["form"])
         assert mark
         before = before.partition(first)[0].rstrip("\n") + "\n"
-        with open(path, "w") as file:
-            file.write("\n\n".join([before, block, mark + last]))
+        yield path, stored, "\n\n".join([before, block, mark + last])
+
+
+def add():
+    """Writes the cases into both files."""
+    for path, stored, wanted in files():
+        with open(path, "w", encoding="ascii") as file:
+            file.write(wanted)
+
+
+def check():
+    """Tells which file doesn't have these cases."""
+    other = [path for path, stored, wanted in files() if stored != wanted]
+    print("\n".join(other) or "both files have these cases")
+    return bool(other)
 
 
 if __name__ == "__main__":
-    add() if sys.argv[1:] == ["--add"] else print(transcripts(), end="")
+    if sys.argv[1:] == ["--check"]:
+        sys.exit(check())
+    if sys.argv[1:] == ["--add"]:
+        add()
+    else:
+        print(transcripts(), end="")
