@@ -5,9 +5,9 @@
 //! answers the first fault that `specs/Groups.antt` names; `one_group` is the law that there is one answer. A `Group` keeps
 //! its frame and its carrier, which is audited for the frame and covering over its field (`Group::lawful`). Its other calls
 //! are those of `lie_bruhat` and `lie_audit` for this frame: forms of words, products and inverses of forms, the audit of
-//! any module, and the matrices of words on audited modules.
+//! any module, the matrices of words on audited modules, and the forms of matrices on covering ones.
 //!
-//! The crate stands on `lie_bruhat`, `lie_unip`, `lie_audit`, `lie_identities`, `lie_poly`, `lie_dense`, `lie_letters`,
+//! The crate stands on `lie_reduce`, `lie_bruhat`, `lie_unip`, `lie_audit`, `lie_identities`, `lie_poly`, `lie_dense`, `lie_letters`,
 //! `lie_weight`, `lie_orbit`, `lie_mat`, `lie_weyl`, `lie_const`, `lie_datum`, `lie_field`, `lie_ring` and `thiserror`.
 #![tactic(auto)]
 

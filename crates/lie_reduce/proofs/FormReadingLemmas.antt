@@ -1,15 +1,14 @@
 -- The parts of a form are those that are read off its matrix, and a word of them has the matrix.
 use Rattle.std.proofs.Common.{◌≡◌, ℕ, List, [], ◌∷◌, ◌++◌, map, length, sym, ap, ap₂, ◌∙◌, subst}
-use Rattle.std.specs.Prelude.{ℤ, pos, neg_ℤ, Option, None, Some}
-use Rattle.std.specs.List.{AllByRecursion}
+use Rattle.std.specs.Prelude.{ℤ}
 use Rattle.lie_ring.specs.Rings.{RingOn, IsRing}
-use Rattle.lie_ring.specs.Matrices.{Matrix, product, identity}
+use Rattle.lie_ring.specs.Matrices.{Matrix, product}
 use Rattle.lie_field.specs.FieldRing.{field_ring, field_is_ring}
 use Rattle.lie_const.specs.Modules.{Module, dimension}
 use Rattle.lie_letters.specs.declared.letter.Letter.{Letter}
 use Rattle.lie_letters.specs.declared.letter.Letter.TheVariants.{H, N}
 use Rattle.lie_letters.specs.SignedFrames.{SignedFrame, unsigned}
-use Rattle.lie_letters.specs.Spelled.{IsWordOver, IsLetterOver, reversed, root_letters}
+use Rattle.lie_letters.specs.Spelled.{IsWordOver, reversed, root_letters}
 use Rattle.lie_unip.specs.Forms.{FormData, IsForm, IsFormOf, IsShortest, form_word, nonzero_letters}
 use Rattle.lie_letters.specs.RingLetters.{full_word}
 use Rattle.lie_unip.specs.Collection.{AreEntries}
@@ -20,8 +19,7 @@ use Rattle.lie_audit.specs.WordMatrix.{word_matrix, torus_element}
 use Rattle.lie_audit.proofs.EqualMatricesLemmas.{equal_matrices}
 use Rattle.lie_audit.proofs.WeylWeightsLemmas.{weyl_moves_weights}
 use Rattle.lie_audit.proofs.WordMatrixLemmas.{joined-words}
-use Rattle.lie_reduce.specs.Triangular.{IsSquare, IsInvertibleDiagonal}
-use Rattle.lie_reduce.specs.Levels.{level}
+use Rattle.lie_reduce.specs.Triangular.{IsSquare}
 use Rattle.lie_reduce.specs.FormReading.{AreLevelFactors, HasNoLevelFactors, AreOnlyFactors, IsReadAlong, HasParts, HasNoForm, ArePartsAlong, IsWordWith, IsNoForms, IsWordOfParts, HasNoFormOf, IsWordRead}
 use Rattle.lie_reduce.specs.TorusReading.{IsTorusOf}
 use Rattle.lie_reduce.specs.Reduction.{HasFormMatrix, IsNoWordMatrix, IsNoPositiveMatrix}

@@ -1,6 +1,6 @@
 -- The factors of a matrix by levels are the triangular factors of the matrix in the order of the places.
-use Rattle.std.proofs.Common.{◌≡◌, ◌≢◌, ℕ, ◌<◌, ◌≤◌, List, length, get_or, sym, ap, ap₂, ◌∙◌, subst, arith}
-use Rattle.std.specs.Prelude.{ℤ, pos, neg_ℤ}
+use Rattle.std.proofs.Common.{◌≡◌, ℕ, ◌<◌, List, length, get_or, sym, ap, ap₂, ◌∙◌, subst, arith}
+use Rattle.std.specs.Prelude.{pos, neg_ℤ}
 use Rattle.std.proofs.lemmas.Int.{ints}
 use Rattle.lie_ring.specs.Rings.{RingOn, IsElem, IsRing}
 use Rattle.lie_ring.specs.Matrices.{Matrix, entry, table, product}
@@ -13,7 +13,7 @@ use Rattle.lie_reduce.specs.Triangular.{IsSquare, IsUpperUnitriangular, IsLowerU
 use Rattle.lie_reduce.specs.Levels.{Raises, level}
 use Rattle.lie_reduce.specs.Places.{AreInOrder}
 use Rattle.lie_reduce.specs.Pivots.{sorted_entry}
-use Rattle.lie_reduce.specs.FormReading.{AreRanks, AreLevelFactors, HasNoLevelFactors, AreOnlyFactors}
+use Rattle.lie_reduce.specs.FormReading.{AreLevelFactors, HasNoLevelFactors, AreOnlyFactors}
 use Rattle.lie_reduce.proofs.LevelLemmas.{raises-diagonal, raises-zero, element}
 use Rattle.lie_reduce.proofs.Peeling.{product-square}
 use Rattle.lie_reduce.proofs.PlaceOrder.{falling}

@@ -1,7 +1,6 @@
 -- The values of roots, of what is lowered and of the axes, read off a diagonal matrix.
-use Rattle.std.proofs.Common.{◌≡◌, ◌≢◌, ℕ, zero, suc, ◌+◌, ◌-◌, ◌*◌, ◌<◌, ◌≤◌, List, [], ◌∷◌, ◌++◌, length, take, get_or, refl, sym, ap, ap₂, ◌∙◌, subst, arith, ⊎_elim, length-append}
-use Rattle.std.specs.Prelude.{ℤ, pos, negsuc, neg_ℤ}
-use Rattle.std.proofs.lemmas.Int.{ints}
+use Rattle.std.proofs.Common.{◌≡◌, ◌≢◌, ℕ, zero, suc, ◌<◌, ◌≤◌, List, [], ◌∷◌, ◌++◌, length, take, get_or, refl, sym, ap, ap₂, ◌∙◌, subst, arith, ⊎_elim, length-append}
+use Rattle.std.specs.Prelude.{ℤ, pos, neg_ℤ}
 use Rattle.std.proofs.lemmas.Bool.{cases_eq, ltb-true}
 use Rattle.std.proofs.lemmas.List.{ext_get_or}
 use Rattle.std.proofs.Math.ListN.{get_or-append}
@@ -13,21 +12,19 @@ use Rattle.lie_field.specs.FieldRing.{field_ring, field_is_ring}
 use Rattle.lie_field.specs.Quotient.{order, mul, inv, of_int, power_int}
 use Rattle.lie_field.specs.Units.{IsUnit}
 use Rattle.lie_field.proofs.UnitLemmas.{power_laws}
-use Rattle.lie_datum.specs.Vectors.{Vector, plus, times, minus, unit}
-use Rattle.lie_datum.specs.Numbers.{place, number_at}
-use Rattle.lie_datum.specs.RootDatum.{vector, opposite}
+use Rattle.lie_datum.specs.Vectors.{Vector, times, unit}
+use Rattle.lie_datum.specs.Numbers.{number_at}
+use Rattle.lie_datum.specs.RootDatum.{vector}
 use Rattle.lie_datum.specs.RootList.{RootDatum, root_of, IsNumber}
-use Rattle.lie_datum.proofs.NumberLemmas.{some_within}
 use Rattle.lie_datum.proofs.SignedRoots.{opposite_number}
 use Rattle.lie_orbit.specs.Laws.{IsZero}
-use Rattle.lie_orbit.specs.Lowering.{IsHalf, IsFirstHigh, less_root}
-use Rattle.lie_orbit.specs.Weights.{coroot_pairing}
+use Rattle.lie_orbit.specs.Lowering.{less_root}
 use Rattle.lie_const.specs.Modules.{Module, dimension, divided_power}
 use Rattle.lie_letters.specs.Entries.{AreUnits, character}
 use Rattle.lie_letters.proofs.CharacterLemmas.{IsUnit-character, combination-times}
 use Rattle.lie_identities.specs.Audit.{IsGraded}
 use Rattle.lie_identities.specs.Covers.{less_axis}
-use Rattle.lie_audit.specs.WordMatrix.{torus_element, weight_value}
+use Rattle.lie_audit.specs.WordMatrix.{torus_element}
 use Rattle.lie_audit.specs.WeylWeights.{weight_at}
 use Rattle.lie_audit.proofs.CharacterValues.{character-plus}
 use Rattle.lie_audit.proofs.GradedWeights.{raised}

@@ -1,7 +1,6 @@
 -- The values of weights at a torus vector: at multiples, at zeros and at the axes, and what two of them make.
-use Rattle.std.proofs.Common.{◌≡◌, ◌≢◌, ℕ, zero, suc, ◌<◌, ◌≤◌, List, [], ◌∷◌, length, get_or, refl, sym, ap, ap₂, ◌∙◌, subst, arith}
-use Rattle.std.specs.Prelude.{ℤ, pos, neg_ℤ, ◌*ℤ◌}
-use Rattle.std.proofs.lemmas.Int.{ints}
+use Rattle.std.proofs.Common.{◌≡◌, ℕ, zero, suc, ◌<◌, List, [], ◌∷◌, length, get_or, refl, sym, ap, ap₂, ◌∙◌, arith}
+use Rattle.std.specs.Prelude.{ℤ, neg_ℤ}
 use Rattle.lie_field.specs.FiniteField.{FiniteField}
 use Rattle.lie_field.specs.Quotient.{order, mul, inv, power_int}
 use Rattle.lie_field.specs.Units.{IsUnit}
@@ -11,7 +10,7 @@ use Rattle.lie_field.specs.Algebra.Laws
 use Rattle.lie_field.specs.Algebra.Powers
 use Rattle.lie_field.proofs.UnitLemmas.{power_laws}
 use Rattle.lie_ring.specs.IntegerLaws.{integers_commutative}
-use Rattle.lie_datum.specs.Vectors.{Vector, plus, times, minus, unit}
+use Rattle.lie_datum.specs.Vectors.{Vector, plus, times, unit}
 use Rattle.lie_orbit.specs.Laws.{IsZero}
 use Rattle.lie_letters.specs.Entries.{AreUnits, character}
 use Rattle.lie_letters.proofs.CharacterLemmas.{IsUnit-character, one_times, times_one}

@@ -1,6 +1,6 @@
-use Rattle.std.proofs.Common.{◌≡◌, ◌∙◌, ap, ap₂, sym, subst}
+use Rattle.std.proofs.Common.{◌≡◌, ◌∙◌, ap, sym, subst}
 use Rattle.std.specs.Prelude.{MatchOption}
-use Rattle.lie_ring.specs.Matrices.{Matrix, product}
+use Rattle.lie_ring.specs.Matrices.{product}
 use Rattle.lie_field.specs.FieldRing.{field_ring}
 use Rattle.lie_const.specs.Modules.{dimension}
 use Rattle.lie_letters.specs.Spelled.{reversed}

@@ -1,9 +1,8 @@
-use Rattle.std.proofs.Common.{◌≡◌, ◌∙◌, ap, sym, subst}
+use Rattle.std.proofs.Common.{◌∙◌, ap, sym, subst}
 use Rattle.lie_letters.specs.SignedFrames.{unsigned}
 use Rattle.lie_letters.specs.Spelled.{IsWordOver}
 use Rattle.lie_audit.specs.WordMatrix.{word_matrix}
-use Rattle.std.specs.Prelude.{MatchOption}
-use Rattle.lie_reduce.specs.Reduction.{HasListMatrix, IsNoPositiveMatrix, Peels}
+use Rattle.lie_reduce.specs.Reduction.{Peels}
 use Rattle.lie_reduce.proofs.ReversedWords.{list-over}
 use Rattle.lie_reduce.proofs.form_parts.positive_word.Goals as goal
 

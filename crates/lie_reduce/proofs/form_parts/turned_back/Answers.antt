@@ -1,7 +1,6 @@
 use Rattle.std.proofs.Common.{◌≡◌, ◌∙◌, IfOk, ap, sym, subst}
-use Rattle.lie_ring.specs.Matrices.{Matrix, product}
+use Rattle.lie_ring.specs.Matrices.{product}
 use Rattle.lie_field.specs.FieldRing.{field_ring}
-use Rattle.lie_const.specs.Modules.{dimension}
 use Rattle.lie_audit.specs.WordMatrix.{word_matrix}
 use Rattle.lie_reduce.proofs.WordInverses.{matrix-square}
 use Rattle.lie_reduce.proofs.form_parts.turned_back.Goals as goal

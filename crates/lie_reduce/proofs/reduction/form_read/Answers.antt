@@ -1,5 +1,4 @@
 use Rattle.std.proofs.Common.{◌≡◌, ◌∙◌, ap, refl, sym, subst}
-use Rattle.lie_const.specs.Modules.{dimension}
 use Rattle.lie_audit.specs.WordMatrix.{word_matrix}
 use Rattle.lie_reduce.proofs.CoefficientLemmas.{covering_for}
 use Rattle.lie_reduce.proofs.FormReadingLemmas.{form-matrix, no-word}

@@ -1,4 +1,4 @@
-use Rattle.std.proofs.Common.{◌≡◌, subst}
+use Rattle.std.proofs.Common.{subst}
 use Rattle.std.specs.Prelude.{MatchOption}
 use Rattle.lie_reduce.specs.FormReading.{HasNoFormOf, IsWordRead}
 use Rattle.lie_reduce.specs.Reduction.{HasPivots}

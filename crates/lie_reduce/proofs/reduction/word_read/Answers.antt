@@ -1,4 +1,4 @@
-use Rattle.std.proofs.Common.{◌≡◌, ◌∙◌, List, Option, ℕ, map, ap, sym, subst}
+use Rattle.std.proofs.Common.{◌∙◌, map, ap, sym, subst}
 use Rattle.std.specs.Prelude.{MatchOption}
 use Rattle.lie_datum.proofs.ListingLemmas.{ok_map}
 use Rattle.lie_weyl.proofs.Words.{is_word}
@@ -6,7 +6,6 @@ use Rattle.lie_letters.specs.declared.letter.Letter.TheVariants.{N}
 use Rattle.lie_letters.specs.SignedFrames.{unsigned}
 use Rattle.lie_letters.specs.Spelled.{IsWordOver}
 use Rattle.lie_weyl.specs.WeylElement.{IsLeastWord}
-use Rattle.lie_unip.specs.Forms.{IsShortest}
 use Rattle.lie_reduce.specs.FormReading.{HasNoForm, ArePartsAlong, IsNoForms, IsWordOfParts, HasNoFormOf, IsWordRead}
 use Rattle.lie_reduce.proofs.CoefficientLemmas.{covering_for}
 use Rattle.lie_reduce.proofs.PivotImages.{match_both}

@@ -1,8 +1,7 @@
-use Rattle.std.proofs.Common.{◌≡◌, ◌∙◌, [], ap, sym, subst, get_or, rules}
+use Rattle.std.proofs.Common.{◌∙◌, ap, sym, subst, rules}
 use Rattle.std.proofs.lemmas.Int.{to_z-of_z}
 use mir.Val.{SFits}
 use mir.Syntax.{w128}
-use Rattle.std.specs.Prelude.{pos}
 use Rattle.lie_ring.specs.Matrices.{entry}
 use Rattle.lie_datum.specs.Vectors.{unit}
 use Rattle.lie_field.specs.Quotient.{mul, inv, power_int}

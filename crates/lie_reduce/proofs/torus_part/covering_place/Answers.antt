@@ -1,5 +1,4 @@
-use Rattle.std.proofs.Common.{ℕ, ◌<◌, [], get_or, sym, subst, arith}
-use Rattle.lie_const.specs.Modules.{dimension}
+use Rattle.std.proofs.Common.{ℕ, [], get_or, sym, subst, arith}
 use Rattle.lie_identities.specs.Covers.{less_axis}
 use Rattle.lie_identities.specs.CoverParts.{LowersToZero}
 use Rattle.lie_identities.proofs.CoverLemmas.{fails_more}

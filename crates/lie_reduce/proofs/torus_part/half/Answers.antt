@@ -1,4 +1,4 @@
-use Rattle.std.proofs.Common.{◌≡◌, ◌^◌, ◌≤◌, pos, ◌≤ℤ◌, subst, sym, ap, ◌∙◌}
+use Rattle.std.proofs.Common.{◌^◌, pos, ◌≤ℤ◌, subst, sym, ap, ◌∙◌}
 use Rattle.lie_datum.specs.Vectors.{pairing}
 use Rattle.lie_datum.specs.RootDatum.{IsWithin}
 use Rattle.lie_orbit.specs.Weights.{coroot_pairing}

@@ -1,8 +1,7 @@
-use Rattle.std.proofs.Common.{◌≡◌, ℕ, ◌*◌, ◌^◌, ◌<◌, ◌≤◌, length, arith, subst, sym, ap, ap₂, ◌∙◌, rules, slice_index_or}
+use Rattle.std.proofs.Common.{◌≡◌, ◌*◌, ◌^◌, ◌<◌, length, arith, subst, sym, ap, ◌∙◌, rules, slice_index_or}
 use Rattle.std.proofs.lemmas.Int.{to_z-of_z}
 use mir.Val.{SFits}
 use mir.Syntax.{w128}
-use Rattle.std.specs.Prelude.{pos}
 use Rattle.std.proofs.lemmas.List.{get_or_read}
 use Rattle.lie_datum.specs.Numbers.{place, number_at}
 use Rattle.lie_datum.proofs.NumberLemmas.{place_within}

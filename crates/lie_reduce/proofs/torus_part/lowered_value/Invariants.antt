@@ -1,4 +1,3 @@
-use Rattle.std.proofs.Common.{ℕ}
 use Rattle.lie_orbit.proofs.FallLemmas.{norm, IsOnTheWay}
 use Rattle.lie_reduce.specs.TorusReading.{IsQuotientAt}
 use Rattle.lie_identities.specs.CoverParts.{LowersToZero}

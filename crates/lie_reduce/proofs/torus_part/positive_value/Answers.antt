@@ -1,10 +1,10 @@
-use Rattle.std.proofs.Common.{◌≡◌, ◌∙◌, ◌<◌, ap, sym, arith, subst, IfOk}
+use Rattle.std.proofs.Common.{◌≡◌, ◌∙◌, ◌<◌, ap, sym, arith, subst}
 use Rattle.lie_ring.specs.Matrices.{image, entry}
 use Rattle.lie_field.specs.Quotient.{of_int, mul, inv}
 use Rattle.lie_const.specs.Modules.{dimension}
 use Rattle.lie_reduce.specs.TorusReading.{IsRootValue}
 use Rattle.lie_reduce.proofs.CoefficientLemmas.{live_top, image_at}
-use Rattle.lie_reduce.proofs.TorusSteps.{diagonal-unit, root-value}
+use Rattle.lie_reduce.proofs.TorusSteps.{root-value}
 use Rattle.lie_reduce.proofs.torus_part.positive_value.Goals as goal
 
 pub power-requires-clause-within : goal.power-requires-clause-within

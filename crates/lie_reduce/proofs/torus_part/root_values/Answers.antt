@@ -1,5 +1,5 @@
-use Rattle.std.proofs.Common.{◌≡◌, ◌∙◌, ◌+◌, ◌<◌, ◌++◌, ◌∷◌, [], suc, length, ap, sym, subst, arith}
-use Rattle.std.specs.Prelude.{pos, neg_ℤ, slice_index_or}
+use Rattle.std.proofs.Common.{◌≡◌, ◌+◌, ◌<◌, suc, length, sym, subst, arith}
+use Rattle.std.specs.Prelude.{pos}
 use Rattle.std.proofs.lemmas.List.{get_or_read}
 use Rattle.lie_datum.specs.Numbers.{number_at}
 use Rattle.lie_datum.proofs.NumberLemmas.{some_within}
