@@ -84,7 +84,7 @@ module _ (g : LoadedGroup) (there : HasGroup g) (k : ℕ) (ended : Bool) (n : �
   abbrev here : State
   here = group_state g k ended
 
-  Covered : Outcome → Module → Type 0
+  abbrev Covered : Outcome → Module → Type 0
   Covered r u = (x : Result ⊤ CoverFault) × Covers g.frame.field g.frame.datum u x × (r ≡ cover_outcome g name x)
 
   cover_told : (x : Result ⊤ CoverFault) (r : Outcome) (reply : Reply) (next : State) → Covers g.frame.field g.frame.datum v x → r ≡ cover_outcome g name x → Tells here n r reply next

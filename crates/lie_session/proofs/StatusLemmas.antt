@@ -250,8 +250,8 @@ status-end mode lines front last n reply done h live r = by_end (may_end last.st
 pub end_uncounted : (s : State) (n : ℕ) (reply : Reply) (done : State) → is_loaded s.stage ≡ false → RepliesAtEnd s n reply done → done.refusals ≡ s.refusals
 end_uncounted s n reply done early r = by_end (may_end s.stage) r where
   by_loaded : (loaded : Bool) → loaded ≡ false → done ≡ cond loaded (record s { stage = dropped s.stage; refusals = next_count s.refusals; ended = true }) (over s) → done.refusals ≡ s.refusals
-  by_loaded true early is = absurd (false≢true (sym early))
-  by_loaded false early is = ap (λ (t : State). t.refusals) is
+  by_loaded true unloaded is = absurd (false≢true (sym unloaded))
+  by_loaded false unloaded is = ap (λ (t : State). t.refusals) is
 
   by_end : (ends : Bool) → MatchBool ends (Accepts (record s { ended = true }) None reply done) (Refuses (record s { ended = true }) (refusal n (name_of fault.End) []) reply done) → done.refusals ≡ s.refusals
   by_end true r = ap (λ (t : State). t.refusals) r.1

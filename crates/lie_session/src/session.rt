@@ -93,7 +93,8 @@ impl Session {
         name: &[u8],
         numbers: &[i128],
     ) -> Result<Reply, AllocError>
-        ensures { IfOk result (λ reply. Refuses self.old (refusal_text number name.now numbers.now) reply self.new) }
+        ensures refuses { IfOk result (λ reply. Refuses self.old (refusal_text number name.now numbers.now) reply self.new) }
+        ensures left { OnErr result (self.new ≡ self.old) }
     {
         let bytes = refusal(alloc, number, name, numbers)?;
         if self.stage.is_loaded() {
