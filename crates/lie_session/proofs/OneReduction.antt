@@ -61,12 +61,15 @@ one_fault F D v (Dead r) (Uncovered j) p q = absurd (live_not_dead F D v r q.0 p
 one_fault F D v (Uncovered i) (Dead s) p q = absurd (live_not_dead F D v s p.0 q)
 one_fault F D v (Uncovered i) (Uncovered j) p q = ap Uncovered (one_uncovered D v i j p.1 q.1)
 
+abbrev failed : CoverFault → Result ⊤ CoverFault
+failed why = Err why
+
 -- a module covers, or has one first fault
 pub one_cover : (F : FiniteField) (D : RootDatum) (v : Module) (x y : Result ⊤ CoverFault) → Covers F D v x → Covers F D v y → x ≡ y
 one_cover F D v (Ok u) (Ok t) p q = refl
 one_cover F D v (Ok u) (Err why) p q = absurd (covers_no_fault F D v why p q)
 one_cover F D v (Err why) (Ok u) p q = absurd (covers_no_fault F D v why q p)
-one_cover F D v (Err why) (Err other) p q = ap (λ (f : CoverFault). Err {A = ⊤} f) (one_fault F D v why other p q)
+one_cover F D v (Err why) (Err other) p q = ap failed (one_fault F D v why other p q)
 
 -- ---- forms with one matrix
 
