@@ -21,7 +21,7 @@ use Rattle.lie_orbit.specs.Orbits.{start, IsOrbit, IsOrbitSize, IsOrbitFault}
 use Rattle.lie_orbit.specs.declared.faults.OrbitFault.{OrbitFault}
 use Rattle.lie_orbit.specs.declared.faults.OrbitFault.TheVariants as orbit
 use Rattle.lie_weight.specs.declared.faults.ModuleFault.{ModuleFault}
-use Rattle.lie_weight.specs.declared.faults.ModuleFault.TheVariants.{NoMemory, NotMinuscule, Wide, Heavy, Huge}
+use Rattle.lie_weight.specs.declared.faults.ModuleFault.TheVariants.{NoMemory, NotMinuscule, Table, Wide, Heavy, Huge}
 use Rattle.lie_weight.specs.Conjugation.{Precedes}
 use Rattle.lie_weight.specs.OrbitFaults.{IsHeavyWeight, IsHeavyAt, IsFirstHugeAlong, module_fault}
 use Rattle.lie_weight.specs.Along.{AreSteppable, IsMade, IsMadeAlong, IsFaultAlong, huge_place}
@@ -208,6 +208,7 @@ module _ (d : RootDatum) (loaded : IsLoaded d) (eta : Signs) where
         pub making_fault : (e : ModuleFault) → IsMakingFault d eta os e → LoadsCarrier d eta adjoint (Err e)
         making_fault NoMemory h = tt
         making_fault (NotMinuscule r) h = absurd h
+        making_fault (Table n) h = absurd h
         making_fault (Wide n) h = absurd h
         making_fault (Heavy b) h = absurd h
         making_fault (Huge r k) h = (light_carrier, huge_carrier r k h)
@@ -261,6 +262,7 @@ all_few d eta adjoint os vs ws made e few = let m = ap (λ t. length (adjoint.we
 pub listing_loads : (d : RootDatum) (eta : Signs) (adjoint : Module) (e : ModuleFault) → IsListingFault d e → LoadsCarrier d eta adjoint (Err e)
 listing_loads d eta adjoint NoMemory h = tt
 listing_loads d eta adjoint (NotMinuscule r) h = absurd h
+listing_loads d eta adjoint (Table n) h = absurd h
 listing_loads d eta adjoint (Wide n) h = h
 listing_loads d eta adjoint (Heavy a) h = absurd h
 listing_loads d eta adjoint (Huge r k) h = absurd h
@@ -270,5 +272,6 @@ pub huge_is : (d : RootDatum) (eta : Signs) (ws : List Vector) (e : ModuleFault)
 huge_is d eta ws (Huge r k) p h e = let f : p ≡ (r, k) = cc in subst (λ t. IsFirstHugeAlong d eta ws t.0 t.1) (sym f) h
 huge_is d eta ws NoMemory p h e = absurd (cc)
 huge_is d eta ws (NotMinuscule r) p h e = absurd h
+huge_is d eta ws (Table n) p h e = absurd h
 huge_is d eta ws (Wide n) p h e = absurd h
 huge_is d eta ws (Heavy a) p h e = absurd h

@@ -16,10 +16,12 @@ pub mod SmallLemmas
 pub mod VectorEquality
 pub mod SizeLemmas
 pub mod FactorLemmas
+pub mod ElementLemmas
 pub mod DraftLemmas
 pub mod StepLemmas
 pub mod CompletionLemmas
 pub mod OrbitLemmas
+pub mod SimpleLemmas
 pub mod LoweringLemmas
 pub mod UniqueLemmas
 pub mod AlongLemmas

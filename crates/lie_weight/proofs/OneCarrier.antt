@@ -11,7 +11,7 @@ use Rattle.lie_const.specs.Adjoint.{adjoint_dimension, basis_vector, basis_weigh
 use Rattle.lie_const.specs.Signs.{Signs}
 use Rattle.lie_orbit.proofs.OneOrbit.{order}
 use Rattle.lie_weight.specs.declared.faults.ModuleFault.{ModuleFault}
-use Rattle.lie_weight.specs.declared.faults.ModuleFault.TheVariants.{NoMemory, NotMinuscule, Wide, Heavy, Huge}
+use Rattle.lie_weight.specs.declared.faults.ModuleFault.TheVariants.{NoMemory, NotMinuscule, Table, Wide, Heavy, Huge}
 use Rattle.lie_weight.specs.OrbitFaults.{IsHeavyAt}
 use Rattle.lie_weight.specs.Sums.{IsSum, IsNothing, IsDirectSum}
 use Rattle.lie_weight.specs.Carriers.{joined, IsModuleOfOrbit, IsCarrier, IsWideCarrier, AreCarrierWeights, IsHeavyCarrier, IsHugeCarrier, LoadsCarrier, LoadsCarrierOneWay}
@@ -93,14 +93,19 @@ module _ (d : RootDatum) (loaded : IsLoaded d) (eta : Signs) where
     two : (x y : Result Module ModuleFault) → LoadsCarrier d eta adjoint x → LoadsCarrier d eta adjoint y → x ≢ Err NoMemory → y ≢ Err NoMemory → x ≡ y
     two (Err NoMemory) y a b n m = absurd (n refl)
     two (Err (NotMinuscule r)) y a b n m = absurd a
+    two (Err (Table p)) y a b n m = absurd a
     two (Ok u) (Err NoMemory) a b n m = absurd (m refl)
     two (Err (Wide p)) (Err NoMemory) a b n m = absurd (m refl)
     two (Err (Heavy p)) (Err NoMemory) a b n m = absurd (m refl)
     two (Err (Huge r k)) (Err NoMemory) a b n m = absurd (m refl)
     two (Ok u) (Err (NotMinuscule s)) a b n m = absurd b
+    two (Ok u) (Err (Table q)) a b n m = absurd b
     two (Err (Wide p)) (Err (NotMinuscule s)) a b n m = absurd b
+    two (Err (Wide p)) (Err (Table q)) a b n m = absurd b
     two (Err (Heavy p)) (Err (NotMinuscule s)) a b n m = absurd b
+    two (Err (Heavy p)) (Err (Table q)) a b n m = absurd b
     two (Err (Huge r k)) (Err (NotMinuscule s)) a b n m = absurd b
+    two (Err (Huge r k)) (Err (Table q)) a b n m = absurd b
     two (Ok u) (Ok v) a b n m = ap Ok (one_carrier u v a.0 b.0)
     two (Ok u) (Err (Wide p)) a b n m = absurd (few_not_wide u.weights (weights_of u a.0) a.1 b.1)
     two (Ok u) (Err (Heavy p)) a b n m = absurd (heavy_not_light p u.weights b (weights_of u a.0) a.2)
