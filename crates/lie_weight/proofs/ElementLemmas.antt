@@ -5,7 +5,7 @@ use Rattle.std.proofs.lemmas.Bool.{eq-eqb}
 use Rattle.lie_ring.specs.Rings.{sum_below}
 use Rattle.lie_ring.specs.Integers.{integers}
 use Rattle.lie_ring.specs.Powers.{power}
-use Rattle.lie_ring.specs.Matrices.{Matrix, entry, product, AllFit}
+use Rattle.lie_ring.specs.Matrices.{Matrix, table, entry, product, AllFit}
 use Rattle.lie_ring.specs.MatrixLemmas.{entry-table}
 use Rattle.lie_mat.specs.Wide.{nat_sum_below, IsWideProduct}
 use Rattle.lie_datum.proofs.VectorLemmas.{abs_add}
@@ -118,11 +118,8 @@ module _ (v : Module) (r : ℤ) where
   pub diagonal : HasDiagonal (dimension v) (absolute_element v r)
   diagonal j l =
       let e = ap nat_abs (entry-absolute j j l l ∙ absolute_entry_is v r j j) in
-      let o = ap bit' (eq-eqb j j refl) in
+      let o = ap (bit v r j j) (eq-eqb j j refl) in
       omega (arith, e, o)
-    where
-      abbrev bit' : Bool → ℕ
-      bit' t = bit v r j j t
 
   pub bounded : HasSmallPowers v r → IsBoundedBy (dimension v) 1601 (absolute_element v r)
   bounded s i j a b =
@@ -237,3 +234,12 @@ module _ (v : Module) (i : ℕ) (few : dimension v ≤ 1024) (hu : HasSmallPower
   pub third_outer : ¬ IsWideProduct integers x.absolute (product integers y.absolute x.absolute)
   third_outer = subst (λ t. ¬ IsWideProduct integers x.absolute (product integers t x.absolute)) (sym ey.absolute) (subst (λ t. ¬ IsWideProduct integers t (product integers (absolute_element v (neg_ℤ (pos i))) t)) (sym ex.absolute)
       (elements_outer v few (pos i) (neg_ℤ (pos i)) hu hd (absolute_element v (pos i)) (absolute_element v (neg_ℤ (pos i))) (absolute-size v (pos i)) (absolute-size v (neg_ℤ (pos i))) (below_itself (dimension v) (absolute_element v (pos i))) (below_itself (dimension v) (absolute_element v (neg_ℤ (pos i))))))
+
+-- ---- the tables of the entries
+pub element_table : (v : Module) (r t : ℤ) → table (dimension v) (dimension v) (root_element_entry integers v r t) ≡ root_element integers v r t
+unfolding root_element
+element_table v r t = refl
+
+pub absolute_table : (v : Module) (r : ℤ) → table (dimension v) (dimension v) (absolute_entry v r) ≡ absolute_element v r
+unfolding absolute_element
+absolute_table v r = refl

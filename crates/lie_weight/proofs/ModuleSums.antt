@@ -20,7 +20,7 @@ use Rattle.lie_weight.specs.Sums.{IsSum, IsNothing, IsDirectSum}
 use Rattle.lie_weight.specs.Carriers.{joined}
 use Rattle.lie_weight.specs.CarrierParts.{sum_power, sum_powers, module_sum, dimensions}
 use Rattle.lie_weight.proofs.Assembled.{number_place}
-use Rattle.lie_weight.proofs.DraftLemmas.{past_end, bare_single}
+use Rattle.lie_weight.proofs.DraftLemmas.{past_end, bare_draft}
 
 -- ---- blocks
 -- zero blocks make a zero matrix
@@ -232,7 +232,7 @@ sum_kept d v w sv sw small few kept =
 
 -- the module without basis vectors
 pub bare_nothing : (d : RootDatum) (m : ℕ) (ws : List Vector) → m ≡ length d.positive → ws ≡ [] → IsNothing d (record { positive = m; weights = ws; powers = replicate (2 * m) [] })
-bare_nothing d m ws e f = record { shape = (bare_single d m ws e).shape; weights = f }
+bare_nothing d m ws e f = record { shape = (bare_draft d m ws e).shape; weights = f }
 
 -- the first module of a list, and the others
 pub dimensions-cons : (v : Module) (vs : List Module) → dimensions (v ∷ vs) ≡ dimension v + dimensions vs

@@ -1,5 +1,5 @@
 -- Modules by the matrices of their simple roots: the ways in which these are said.
-use Rattle.std.proofs.Common.{◌≡◌, ℕ, zero, suc, ◌-◌, ◌≤◌, ℤ, pos, neg_ℤ, List, length, get_or, refl, sym, ap, subst, ◌∙◌, arith, Result, Ok, Err, IfOk, IfErr, tt}
+use Rattle.std.proofs.Common.{◌≡◌, ℕ, zero, suc, ◌-◌, ◌≤◌, ℤ, pos, neg_ℤ, List, length, get_or, refl, sym, ap, subst, ◌∙◌, arith, Result, Ok, Err, IfOk, IfErr}
 use Rattle.lie_ring.specs.Matrices.{Matrix, zero_matrix}
 use Rattle.lie_datum.specs.Vectors.{Vector}
 use Rattle.lie_datum.specs.RootDatum.{rank, IsSimpleIndex}
@@ -77,10 +77,7 @@ filled_simple d g ws u v e f x = record {
 }
   where
     same : (r : ℤ) → divided_powers v r ≡ divided_powers u r → (k : ℕ) → divided_power v r (suc k) ≡ divided_power u r (suc k)
-    same r h k = ap (λ Ms. matrix Ms (length v.weights) k) h ∙ ap (λ n. matrix (divided_powers u r) n k) (ap length x.weights)
-      where
-        abbrev matrix : List (Matrix ℤ) → ℕ → ℕ → Matrix ℤ
-        matrix Ms n k = get_or Ms k (zero_matrix (pos 0) n n)
+    same r h k = ap (λ Ms. get_or Ms k (zero_matrix (pos 0) (length v.weights) (length v.weights))) h ∙ ap (λ n. get_or (divided_powers u r) k (zero_matrix (pos 0) n n)) (ap length x.weights)
 
 pub made_from : (d : RootDatum) (eta : Signs) (g : ℤ → ℕ → Matrix ℤ) (ws : List Vector) (u v : Module) → u.weights ≡ ws → IsFilled d g (rank d.base) u → Extends d u v → IsCompleted d eta v → ((r : ℤ) (k : ℕ) → ¬ IsHuge d v r k) → IsMadeFrom d eta g ws v
 made_from d eta g ws u v e f x c s = record { simple = filled_simple d g ws u v e f x; completed = c; small = s }
@@ -124,3 +121,8 @@ table_loads d eta ws es x (Err (Table n)) e g h f = absurd f
 table_loads d eta ws es x (Err (Wide n)) e g h f = absurd f
 table_loads d eta ws es x (Err (Heavy a)) e g h f = absurd f
 table_loads d eta ws es x (Err (Huge r k)) e g h f = (g, record { partial = f.partial; given = given_of d ws es x f.partial e f.simple; completed = f.completed; first = f.first })
+
+-- a clause on `Err` that follows from another
+pub err_map : {A E : Type 0} (P Q : E → Type 0) → ((e : E) → P e → Q e) → (r : Result A E) → IfErr r P → IfErr r Q
+err_map P Q f (Ok x) p = tt
+err_map P Q f (Err e) p = f e p

@@ -1,5 +1,5 @@
 -- Modules in which the simple roots and their negatives have the matrices that a source gives.
-use Rattle.std.proofs.Common.{◌≡◌, ℕ, zero, suc, ◌+◌, ◌-◌, ◌<◌, ◌≤◌, ℤ, pos, neg_ℤ, nat_abs, unsigned_abs, List, [], ◌∷◌, ◌++◌, length, get_or, refl, sym, ap, subst, ◌∙◌, arith, ◌⊎◌, inl, inr, ⊎_elim, Bool, true, false, cond, eqb, ◌&&◌, tt}
+use Rattle.std.proofs.Common.{◌≡◌, ℕ, zero, suc, ◌+◌, ◌-◌, ◌<◌, ◌≤◌, ℤ, pos, neg_ℤ, nat_abs, unsigned_abs, List, [], ◌∷◌, ◌++◌, length, get_or, refl, sym, ap, subst, ◌∙◌, arith, ◌⊎◌, inl, inr, ⊎_elim, Bool, true, false, cond, eqb, ◌&&◌, Result, Ok, Err, IfOk}
 use Rattle.std.proofs.lemmas.List.{get_or_append_left, get_or-append-add}
 use Rattle.std.specs.List.{All}
 use Rattle.lie_ring.specs.Matrices.{Matrix, entry, zero_matrix}
@@ -40,19 +40,13 @@ module _ (d : RootDatum) (ws : List Vector) (r : ℤ) where
   step_small i j a b = subst (λ t. nat_abs t ≤ 100) (sym (entry-step i j a b)) (small_bit _)
 
 -- ---- the matrix that a table gives
+either_small : (t : Bool) (n : ℕ) (x y : ℤ) → nat_abs x ≤ n → nat_abs y ≤ n → nat_abs (cond t x y) ≤ n
+either_small true n x y a b = a
+either_small false n x y a b = b
+
 given_small : (es : List Entry) (n : ℕ) → All (λ e. unsigned_abs e.value ≤ n) es → (r : ℤ) (k i j : ℕ) → nat_abs (given_entry es r k i j) ≤ n
 given_small [] n h r k i j = omega arith
-given_small (e ∷ es) n h r k i j = by (is_at r k i j e)
-  where
-    first : unsigned_abs e.value ≤ n
-    first = h 0 e (omega arith)
-
-    rest : nat_abs (given_entry es r k i j) ≤ n
-    rest = given_small es n (λ m z l. h (suc m) z (omega (arith, l))) r k i j
-
-    by : (t : Bool) → nat_abs (cond t e.value (given_entry es r k i j)) ≤ n
-    by true = first
-    by false = rest
+given_small (e ∷ es) n h r k i j = either_small (is_at r k i j e) n e.value (given_entry es r k i j) (h 0 e (omega arith)) (given_small es n (λ m z l. h (suc m) z (omega (arith, l))) r k i j)
 
 pub entry-given : (n : ℕ) (es : List Entry) (r : ℤ) (k i j : ℕ) → i < n → j < n → entry (pos 0) (given_matrix n es r k) i j ≡ given_entry es r k i j
 unfolding given_matrix

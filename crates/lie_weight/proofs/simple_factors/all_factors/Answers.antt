@@ -2,7 +2,7 @@ use Rattle.std.proofs.Common.{◌+◌, length, get_or, subst, sym, ap, ◌∙◌
 use Rattle.lie_weight.specs.declared.factors.Factors.{Factors}
 use Rattle.lie_weight.specs.Factors.{AreModuleFactors}
 use Rattle.lie_weight.proofs.StepLemmas.{member_push, all_factors_are}
-use Rattle.lie_weight.proofs.stepped.all_factors.Goals as goal
+use Rattle.lie_weight.proofs.simple_factors.all_factors.Goals as goal
 
 pub loop-i-preserved : goal.loop-i-preserved
 loop-i-preserved c =
