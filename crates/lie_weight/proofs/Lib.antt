@@ -22,6 +22,7 @@ pub mod StepLemmas
 pub mod CompletionLemmas
 pub mod OrbitLemmas
 pub mod SimpleLemmas
+pub mod WorkLemmas
 pub mod LoweringLemmas
 pub mod UniqueLemmas
 pub mod AlongLemmas
