@@ -243,3 +243,19 @@ element_table v r t = refl
 pub absolute_table : (v : Module) (r : ℤ) → table (dimension v) (dimension v) (absolute_entry v r) ≡ absolute_element v r
 unfolding absolute_element
 absolute_table v r = refl
+
+-- ---- the sizes of the elements of a root
+pub record HaveSize (n : ℕ) (x : Elements) : Type 0 where
+  pub plus : IsOfSize n x.plus
+  pub minus : IsOfSize n x.minus
+  pub absolute : IsOfSize n x.absolute
+
+pub elements_sizes : (v : Module) (r : ℤ) (x : Elements) → AreElements v r x → HaveSize (dimension v) x
+elements_sizes v r x e = record {
+  plus = subst (IsOfSize (dimension v)) (sym e.plus) (element-size v r (pos 1));
+  minus = subst (IsOfSize (dimension v)) (sym e.minus) (element-size v r (negsuc 0));
+  absolute = subst (IsOfSize (dimension v)) (sym e.absolute) (absolute-size v r);
+}
+
+pub across : (n : ℕ) (A B : Matrix ℤ) → IsOfSize n A → IsOfSize n B → A.width ≡ B.height
+across n A B p q = p.width ∙ sym q.height

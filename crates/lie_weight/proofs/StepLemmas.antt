@@ -9,6 +9,7 @@ use Rattle.lie_datum.specs.Numbers.{number_at}
 use Rattle.lie_datum.specs.RootDatum.{rank, IsSimpleIndex}
 use Rattle.lie_datum.proofs.Entries.{within_or_past}
 use Rattle.lie_datum.proofs.SignedRoots.{opposite_number}
+use Rattle.lie_datum.proofs.NumberLemmas.{place_within}
 use Rattle.lie_datum.specs.RootList.{RootDatum, IsNumber, IsLoaded}
 use Rattle.lie_const.specs.Modules.{Module, dimension, divided_powers, divided_power}
 use Rattle.lie_weight.specs.declared.entry.Entry.{Entry}
@@ -17,7 +18,7 @@ use Rattle.lie_weight.specs.declared.sources.Source.{Source}
 use Rattle.lie_weight.specs.declared.sources.Source.TheVariants.{Steps, Entries}
 use Rattle.lie_weight.specs.Tables.{is_at, given_entry, given_matrix, IsEntry}
 use Rattle.lie_weight.specs.OrbitModules.{step_entry, step_matrix}
-use Rattle.lie_weight.specs.Factors.{IsOfSize, IsBoundedBy, AreModuleFactors}
+use Rattle.lie_weight.specs.Factors.{IsOfSize, IsBoundedBy, HasSmallPowers, AreModuleFactors}
 use Rattle.lie_weight.specs.Completion.{with_powers, source_powers, IsSource, IsDraft, IsSmallDraft, Writes, IsFilled, AreAllFactors}
 use Rattle.lie_orbit.proofs.WeightLemmas.{simple_some, simple_number}
 use Rattle.lie_weight.proofs.DraftLemmas.{number_cases, powers_other, written_power, written_draft}
@@ -160,3 +161,19 @@ all_factors_are d v fs i count whole h = record {
 pub ok_both : {A E : Type 0} (P Q R : A → Type 0) → ((x : A) → P x → Q x → R x) → (r : Result A E) → IfOk r P → IfOk r Q → IfOk r R
 ok_both P Q R f (Ok x) p q = f x p q
 ok_both P Q R f (Err e) p q = tt
+
+-- ---- the simple roots of a small draft have small powers
+module _ (d : RootDatum) (loaded : IsLoaded d) (v : Module) (s : IsSmallDraft d v) (i : ℕ) (x : IsSimpleIndex d.base i) where
+  pub small_up : HasSmallPowers v (pos i)
+  small_up = record {
+    number = let p = (place_within d (pos i) (simple_some d loaded i x)).1 in let e = s.draft.shape.positive in omega (arith, p, e);
+    few = s.draft.few (pos i) (simple_some d loaded i x);
+    small = λ k. s.up i k x;
+  }
+
+  pub small_down : HasSmallPowers v (neg_ℤ (pos i))
+  small_down = record {
+    number = let p = (place_within d (neg_ℤ (pos i)) (negative_some d loaded i x)).1 in let e = s.draft.shape.positive in omega (arith, p, e);
+    few = s.draft.few (neg_ℤ (pos i)) (negative_some d loaded i x);
+    small = λ k. s.down i k x;
+  }
