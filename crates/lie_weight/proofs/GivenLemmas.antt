@@ -47,3 +47,8 @@ module _ (n : ℕ) (es : List Entry) (e : Entry) (r : ℤ) (k : ℕ) where
       (λ s. sym (ap (λ t. cond (t && (eqb e.power k && (eqb e.row (suc i) && eqb e.col (suc j)))) e.value (given_entry es r k i j)) (int_eq-no e.simple r s)))
       (λ p. sym (ap (λ t. cond (int_eq e.simple r && (t && (eqb e.row (suc i) && eqb e.col (suc j)))) e.value (given_entry es r k i j)) (ne_eqb e.power k p)
       ∙ neither (int_eq e.simple r) (eqb e.row (suc i) && eqb e.col (suc j)) e.value (given_entry es r k i j))) o)
+
+-- a clause on `Ok` that follows from another
+pub on_map : {A E : Type 0} (P Q : Type 0) → (P → Q) → (r : Result A E) → OnOk r P → OnOk r Q
+on_map P Q f (Ok x) p = f p
+on_map P Q f (Err e) p = tt

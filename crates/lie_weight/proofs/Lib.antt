@@ -23,6 +23,7 @@ pub mod CompletionLemmas
 pub mod OrbitLemmas
 pub mod SimpleLemmas
 pub mod WorkLemmas
+pub mod TableLemmas
 pub mod GivenLemmas
 pub mod LoweringLemmas
 pub mod UniqueLemmas
