@@ -1,7 +1,7 @@
 -- A module that is being made: the matrices of one root are written, and those of the others stay.
-use Rattle.std.proofs.Common.{◌≡◌, ◌≢◌, ℕ, zero, suc, ◌*◌, ◌<◌, ◌≤◌, ℤ, pos, List, [], ◌∷◌, length, get_or, take, set, replicate, refl, sym, ap, subst, ◌∙◌, arith, ◌⊎◌, inl, inr, ⊎_elim, length-set}
-use Rattle.std.proofs.lemmas.List.{get_or-set_same, get_or-set_other, length-replicate, get_or-replicate, get_or-take, length-take-le}
-use Rattle.std.proofs.lemmas.List.Elements.{All-take}
+use Rattle.std.proofs.Common.{◌≡◌, ◌≢◌, ℕ, zero, suc, ◌+◌, ◌*◌, ◌<◌, ◌≤◌, ℤ, pos, List, [], ◌∷◌, ◌++◌, length, get_or, take, set, replicate, refl, sym, ap, subst, ◌∙◌, arith, ◌⊎◌, inl, inr, ⊎_elim, length-set, length-append}
+use Rattle.std.proofs.lemmas.List.{get_or-set_same, get_or-set_other, length-replicate, get_or-replicate, get_or-take, length-take-le, get_or_append_left, get_or-append-add}
+use Rattle.std.proofs.lemmas.List.Elements.{All-take, All-push}
 use Rattle.std.proofs.lemmas.Bool.{cases_eq}
 use Rattle.std.specs.List.{All}
 use Rattle.lie_ring.specs.Matrices.{Matrix, table, entry, zero_matrix}
@@ -128,3 +128,29 @@ taken_trimmed n c Ms Ns q k e = subst (IsTrimmed n Ms) (sym e) (record {
 
     len : length (take c Ms) ≡ c
     len = length-take-le c Ms k.within
+
+-- ---- lists that grow
+-- the first c of the matrices f
+pub record AreFirst (n : ℕ) (f : ℕ → Matrix ℤ) (c : ℕ) (Ms : List (Matrix ℤ)) : Type 0 where
+  pub count : length Ms ≡ c
+  pub each : (k : ℕ) → k < c → matrix_at n Ms k ≡ f k
+  pub squares : All (IsSquare n) Ms
+
+pub first_none : (n : ℕ) (f : ℕ → Matrix ℤ) (Ms : List (Matrix ℤ)) → Ms ≡ [] → AreFirst n f 0 Ms
+first_none n f Ms e = record { count = ap (λ (Ns : List (Matrix ℤ)). length Ns) e; each = λ k l. absurd (omega (arith, l)); squares = subst (All (IsSquare n)) (sym e) (λ i z l. absurd (omega (arith, l))) }
+
+pub first_push : (n : ℕ) (f : ℕ → Matrix ℤ) (c : ℕ) (Ms Ns : List (Matrix ℤ)) (M : Matrix ℤ) → AreFirst n f c Ms → M ≡ f c → IsSquare n M → Ns ≡ Ms ++ M ∷ [] → AreFirst n f (c + 1) Ns
+first_push n f c Ms Ns M a h q e = subst (AreFirst n f (c + 1)) (sym e) (record {
+  count = let l = length-append Ms (M ∷ []) in let k = a.count in omega (arith, l, k);
+  each = λ k l. ⊎_elim (λ m. get_or_append_left Ms (M ∷ []) z k (let b = a.count in omega (arith, m, b)) ∙ a.each k m)
+      (λ m. (let b = a.count in let last : k ≡ length Ms + 0 = omega (arith, l, m, b) in let same : c ≡ k = omega (arith, l, m) in ap (λ t. get_or (Ms ++ M ∷ []) t z) last ∙ get_or-append-add Ms (M ∷ []) 0 z ∙ h ∙ ap f same)) (within_or_past k c);
+  squares = All-push (IsSquare n) Ms M a.squares q;
+})
+  where
+    z : Matrix ℤ
+    z = zero_matrix (pos 0) n n
+
+-- as many as are not 0, trimmed
+pub first_keeps : (n : ℕ) (f : ℕ → Matrix ℤ) (c : ℕ) (Ms Ns : List (Matrix ℤ)) → c ≤ 16 → AreFirst n f c Ms → ((k : ℕ) → c ≤ k → f k ≡ zero_matrix (pos 0) n n) → IsTrimmed n Ms Ns → KeepsAll n f Ns
+first_keeps n f c Ms Ns few a rest t = trimmed_keeps n f Ms Ns (let b = a.count in omega (arith, few, b))
+    (λ k. ⊎_elim (λ l. a.each k l) (λ l. past_end Ms k (zero_matrix (pos 0) n n) (let b = a.count in omega (arith, l, b)) ∙ sym (rest k l)) (within_or_past k c)) t

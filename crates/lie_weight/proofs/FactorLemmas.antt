@@ -4,7 +4,7 @@ use Rattle.std.proofs.lemmas.Int.{ints}
 use Rattle.lie_ring.specs.Rings.{Fits}
 use Rattle.lie_ring.specs.Integers.{integers}
 use Rattle.lie_ring.specs.IntegerLaws.{integers_ring}
-use Rattle.lie_ring.specs.Matrices.{Matrix, entry, product, scaled, zero_matrix, AllElem, AllFit}
+use Rattle.lie_ring.specs.Matrices.{Matrix, entry, product, scaled, zero_matrix, AllElem, AllFit, IsShaped}
 use Rattle.lie_ring.specs.MatrixLemmas.{entry-table, table-same, table-shaped}
 use Rattle.lie_ring.specs.MatrixLaws.{zero-product, product-zero}
 use Rattle.lie_weight.specs.Kept.{IsSquare}
@@ -163,3 +163,11 @@ zero_square n = record {
 
 pub conjugate_size : (n : ℕ) (A M B : Matrix ℤ) (c : ℤ) → IsOfSize n A → IsOfSize n B → IsOfSize n (scaled integers c (product integers (product integers A M) B))
 conjugate_size n A M B c s t = record { height = s.height; width = t.width }
+
+pub conjugate_square : (n : ℕ) (A M B m : Matrix ℤ) (c : ℤ) → IsOfSize n A → IsOfSize n B → m ≡ scaled integers c (product integers (product integers A M) B) → AllFit integers m → IsSquare n m
+conjugate_square n A M B m c s t e f = record {
+  height = ap (λ (x : Matrix ℤ). x.height) e ∙ s.height;
+  width = ap (λ (x : Matrix ℤ). x.width) e ∙ t.width;
+  shaped = subst (λ (x : Matrix ℤ). IsShaped (pos 0) x) (sym e) (table-shaped (pos 0) A.height B.width (λ i j. c *ℤ entry (pos 0) (product integers (product integers A M) B) i j));
+  fit = f;
+}

@@ -2,8 +2,11 @@
 use Rattle.std.proofs.Common.{◌≡◌, ◌≢◌, ℕ, suc, ◌-◌, ◌+◌, ◌<◌, ◌≤◌, ◌⊎◌, ℤ, pos, unsigned_abs, List, [], ◌∷◌, length, get_or, drop, refl, sym, ap, subst, ◌∙◌, arith, ⊎_elim, Bool, true, false, cond, eqb, ◌&&◌}
 use Rattle.std.proofs.lemmas.Bool.{cases_eq, eq-eqb, ne_eqb}
 use Rattle.std.specs.Ordering.{int_eq}
-use Rattle.lie_ring.specs.Matrices.{Matrix, table, entry, with_entry}
-use Rattle.lie_ring.specs.MatrixLemmas.{table-same}
+use Rattle.std.specs.List.{All}
+use Rattle.lie_ring.specs.Integers.{integers}
+use Rattle.lie_ring.specs.Matrices.{Matrix, table, entry, with_entry, zero_matrix, AllFit}
+use Rattle.lie_ring.specs.MatrixLemmas.{table-same, table-shaped}
+use Rattle.lie_weight.specs.Kept.{IsSquare}
 use Rattle.lie_weight.specs.declared.entry.Entry.{Entry}
 use Rattle.lie_weight.specs.Tables.{is_at, given_entry, given_matrix}
 use Rattle.lie_weight.proofs.ColumnLemmas.{int_eq-no, int_eq-yes}
@@ -47,6 +50,37 @@ module _ (n : ℕ) (es : List Entry) (e : Entry) (r : ℤ) (k : ℕ) where
       (λ s. sym (ap (λ t. cond (t && (eqb e.power k && (eqb e.row (suc i) && eqb e.col (suc j)))) e.value (given_entry es r k i j)) (int_eq-no e.simple r s)))
       (λ p. sym (ap (λ t. cond (int_eq e.simple r && (t && (eqb e.row (suc i) && eqb e.col (suc j)))) e.value (given_entry es r k i j)) (ne_eqb e.power k p)
       ∙ neither (int_eq e.simple r) (eqb e.row (suc i) && eqb e.col (suc j)) e.value (given_entry es r k i j))) o)
+
+no_place : (r : ℤ) (k i j : ℕ) (e : Entry) → 16 < k → e.power ≤ 16 → is_at r k i j e ≡ false
+no_place r k i j e l m = ap (λ t. int_eq e.simple r && (t && (eqb e.row (suc i) && eqb e.col (suc j)))) (ne_eqb e.power k (λ x. omega (arith, x, m, l))) ∙ off (int_eq e.simple r)
+  where
+    off : (t : Bool) → (t && false) ≡ false
+    off true = refl
+    off false = refl
+
+nothing : (r : ℤ) (k : ℕ) → 16 < k → (i j : ℕ) (es : List Entry) → All (λ e. e.power ≤ 16) es → given_entry es r k i j ≡ pos 0
+nothing r k l i j [] h = refl
+nothing r k l i j (e ∷ es) h = ap (λ t. cond t e.value (given_entry es r k i j)) (no_place r k i j e l (h 0 e (omega arith))) ∙ nothing r k l i j es (λ m z o. h (suc m) z (omega (arith, o)))
+
+-- ---- the whole matrix
+pub given_nothing : (n : ℕ) (r : ℤ) (k : ℕ) → zero_matrix (pos 0) n n ≡ given_matrix n [] r k
+unfolding given_matrix
+given_nothing n r k = refl
+
+-- no entry has a power above 16: the matrix is 0
+pub given_none : (n : ℕ) (es : List Entry) (r : ℤ) (k : ℕ) → All (λ e. e.power ≤ 16) es → 16 < k → given_matrix n es r k ≡ zero_matrix (pos 0) n n
+unfolding given_matrix
+given_none n es r k h l = table-same n n (given_entry es r k) (λ _ _. pos 0) (λ i j a b. nothing r k l i j es h)
+
+-- the matrix is square, and fits
+pub given_square : (n : ℕ) (es : List Entry) (r : ℤ) (k : ℕ) (M : Matrix ℤ) → M ≡ given_matrix n es r k → AllFit integers M → IsSquare n M
+unfolding given_matrix
+given_square n es r k M e f = record {
+  height = ap (λ (x : Matrix ℤ). x.height) e;
+  width = ap (λ (x : Matrix ℤ). x.width) e;
+  shaped = subst (λ (x : Matrix ℤ). x ≡ table x.height x.width (entry (pos 0) x)) (sym e) (table-shaped (pos 0) n n (given_entry es r k));
+  fit = f;
+}
 
 -- a clause on `Ok` that follows from another
 pub on_map : {A E : Type 0} (P Q : Type 0) → (P → Q) → (r : Result A E) → OnOk r P → OnOk r Q
