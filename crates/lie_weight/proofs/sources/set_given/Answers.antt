@@ -1,11 +1,20 @@
-use Rattle.std.proofs.Common.{◌≡◌, ◌∙◌, sym, inl, inr, List, OnOk}
+use Rattle.std.proofs.Common.{◌≡◌, ◌-◌, ◌∙◌, ◌∷◌, pos, refl, sym, inl, inr, List}
+use Rattle.lie_ring.specs.Matrices.{with_entry}
+use Rattle.lie_weight.specs.Tables.{given_matrix}
 use Rattle.lie_weight.specs.declared.entry.Entry.{Entry as DefinedEntry}
-use Rattle.lie_weight.proofs.GivenLemmas.{given_written, given_passed}
+use Rattle.lie_weight.proofs.GivenLemmas.{given_written, given_passed, on_map}
 use Rattle.lie_weight.proofs.sources.set_given.Goals as goal
 use Rattle.lie_weight.proofs.sources.set_given.Goals.{else-entry-number-via-then-entry-number+else-entry-power, else-entry-number-via-else-entry-number}
 
 pub returns-then-entry-power-clause-given : goal.returns-then-entry-power-clause-given
-returns-then-entry-power-clause-given c = ?
+returns-then-entry-power-clause-given c =
+    let M = c.args.matrix.now in
+    let e = c.args.entry.now in
+    let r = c.args.root in
+    let k = c.args.power in
+    on_map (c.set.new.self ≡ with_entry (pos 0) M (e.row - 1) (e.col - 1) e.value) ((es : List DefinedEntry) → M ≡ given_matrix M.height es r k → c.set.new.self ≡ given_matrix M.height (e ∷ es) r k)
+    (λ is es m. is ∙ given_written M.height es e r k M m refl c.requires.square (c.if-entry-number.true ∙ c.number.ensures) c.if-entry-power.true c.requires.row.0 c.requires.col.0)
+    c.set.result c.set.ensures.ok
 
 pub returns-else-entry-number-clause-given : goal.returns-else-entry-number-clause-given
 returns-else-entry-number-clause-given c es e =
