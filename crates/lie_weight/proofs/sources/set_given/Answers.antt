@@ -1,5 +1,5 @@
 use Rattle.std.proofs.Common.{◌≡◌, ◌-◌, ◌∙◌, ◌∷◌, pos, refl, sym, ap, inl, inr, List}
-use mir.Val.{to_z, of_z}
+use mir.Val.{of_z}
 use mir.Syntax.{w32}
 use Rattle.lie_ring.specs.Matrices.{with_entry}
 use Rattle.lie_weight.specs.Tables.{given_matrix}
@@ -23,5 +23,5 @@ returns-else-entry-number-clause-given c es e =
     e ∙ given_passed c.args.matrix.now.height es c.args.entry.now c.args.root c.args.power
     (elim c.else-entry-number.branch [
       | else-entry-number-via-then-entry-number+else-entry-power w ↦ inr w.if-entry-power.false
-      | else-entry-number-via-else-entry-number w ↦ inl (λ h. w.if-entry-number.false (ap (λ t. to_z w32 (of_z w32 t)) (h ∙ sym c.number.ensures)))
+      | else-entry-number-via-else-entry-number w ↦ inl (λ h. w.if-entry-number.false (ap (of_z w32) (h ∙ sym c.number.ensures)))
     ])
