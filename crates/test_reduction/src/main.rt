@@ -1,9 +1,9 @@
 //! Matrices read back: each row of standard input is a matrix, and the program writes beside it what `pivots`, `peel` or
 //! `reduce` answers.
 //!
-//! The stored output was worked out by hand from the matrices of root elements, torus elements and Weyl representatives, and
-//! never by this program; so a wrong value is a difference of text. Rows are those of `test_rows`, with the rows of a matrix
-//! between strokes. They are about the last rows `field` and `datum`, and the module of the orbit of the last row `orbit`.
+//! The stored output was found by multiplying the matrices of letters, and never by this program; so a wrong value is a
+//! difference of text. Rows are those of `test_rows`, with the rows of a matrix between strokes. They are about the last rows
+//! `field` and `datum`, and the module of the orbit of the last row `orbit`.
 #![tactic(auto)]
 
 mod forms;
