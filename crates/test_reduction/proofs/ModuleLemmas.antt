@@ -1,5 +1,5 @@
 -- What is known of modules that were made, and of what is read off matrices.
-use Rattle.std.proofs.Common.{◌≡◌, ℕ, ℤ, List, Option, Some, None, Ok, Err, Result, IfOk, IfSome}
+use Rattle.std.proofs.Common.{ℕ, ℤ, List, Option, Some, None, Ok, Err, Result, IfOk, IfSome}
 use Rattle.lie_ring.specs.Matrices.{Matrix}
 use Rattle.lie_datum.specs.Vectors.{Vector}
 use Rattle.lie_datum.specs.RootList.{RootDatum}

@@ -1,6 +1,6 @@
 //! Matrices over the field, by their rows.
 
-ghost use Rattle.std.specs.Prelude.{◌≡◌, ◌≤◌, ◌<◌, IfOk, OnOk};
+ghost use Rattle.std.specs.Prelude.{◌≡◌, ◌<◌, IfOk, OnOk};
 ghost use Rattle.lie_ring.specs.Matrices.{AllElem};
 ghost use Rattle.lie_field.specs.FieldRing.{field_ring};
 
