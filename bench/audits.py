@@ -261,7 +261,7 @@ def completed(d, eta, weights, entries):
             bound = product(numbers, sizes + [absolute(e)] + sizes, size)
             if any(x >= HUGE for column in bound for x in column.values()):
                 return None, "huge %d %d" % (d.number(r), k)
-            space.powers[r].append([{a: eta[i, s] * x for a, x in c.items()} for c in product(numbers, weyl + [e] + back, size)])
+            space.powers[r].append([{a: eta[i, s] ** k * x for a, x in c.items()} for c in product(numbers, weyl + [e] + back, size)])
         while space.powers[r] and not any(space.powers[r][-1]):
             space.powers[r].pop()
     return space, None

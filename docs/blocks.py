@@ -18,7 +18,7 @@ PAGES = ["README.md", "docs/TOUR.md"]
 HEADING = "# The sessions of README.md and of docs/TOUR.md, as docs/blocks.py --add writes them."
 # words of lines that have no reply when they are accepted, and of those that have one only as the last of a block
 QUIET = ("field", "datum", "root", "coroot", "reduce")
-LAST = ("row",)
+LAST = ("row", "weight", "entry")
 STATUS = ["Done", "Refused", "Usage", "LoadRefused"]
 
 
@@ -43,7 +43,8 @@ class Session:
         """Lines that have a reply where none can be, or none where one must be."""
         for line, lines in self.steps:
             word = line.split(" ")[0]
-            is_quiet = word in QUIET or not line.strip() or line.startswith("#")
+            is_table = word == "module" and line.split()[2:3] == ["table"]
+            is_quiet = word in QUIET or is_table or not line.strip() or line.startswith("#")
             if word not in LAST and bool(lines) == is_quiet and not (is_quiet and lines[0].startswith("refused ")):
                 yield f"{self.page}, {self.title}: {line}"
 

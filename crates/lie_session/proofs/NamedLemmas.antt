@@ -4,15 +4,16 @@ use Rattle.std.proofs.lemmas.List.{map-append}
 use Rattle.std.proofs.lemmas.Map.Made.{lookup-map_values}
 use Rattle.std.specs.Prelude.{bytes_eq}
 use Rattle.std.specs.List.{AllByRecursion, IsDistinct}
-use Rattle.std.specs.Map.{lookup, keys_of}
-use Rattle.std.specs.Option.{option_map}
+use Rattle.std.specs.Map.{lookup, keys_of, set_value}
+use Rattle.std.specs.Option.{IfSome, option_map}
 use Rattle.std.specs.Global.{Vec}
 use Rattle.std.proofs.lemmas.Cmp.{nat_list_eq_equiv}
+use Rattle.std.proofs.lemmas.Slice.Eq.{bytes_eq-Decides}
 use Rattle.indexmap.specs.IndexMap.{IndexMap, insert_entry}
 use Rattle.indexmap.proofs.CallerLemmas.{insert_entry-new}
 use Rattle.lie_const.specs.Modules.{Module}
 use Rattle.lie_identities.specs.Audited.{AuditedModule}
-use Rattle.lie_session.specs.Named.{Named, Audits, module_of, audits_of, named_of, audited_of, HasDistinctNames}
+use Rattle.lie_session.specs.Named.{NamedModule, with_its_lines, Named, Audits, named_at, module_of, with_named, audits_of, named_of, audited_of, HasDistinctNames}
 
 -- the test of two keys
 abbrev pub same_key : Vec ℕ → Vec ℕ → Bool
@@ -23,9 +24,30 @@ pub none_mapped : {A B : Type 0} (g : A → B) (o : Option A) → option_map g o
 none_mapped g None h = refl
 none_mapped g (Some a) h = absurd cc
 
+-- an image of an image
+pub map_twice : {A B C : Type 0} (f : B → C) (g : A → B) (o : Option A) → option_map f (option_map g o) ≡ option_map (λ a. f (g a)) o
+map_twice f g None = refl
+map_twice f g (Some a) = refl
+
 -- the module alone
 abbrev pub module_in : AuditedModule → Module
 module_in a = a.module
+
+abbrev pub alone : NamedModule → Module
+alone v = v.module
+
+-- a name that no module has
+pub free_at : (modules : Named) (name : List ℕ) → module_of modules name ≡ None → named_at modules name ≡ None
+free_at modules name free = none_mapped alone (named_at modules name) free
+
+-- the module of a name, with its lines
+pub module_at : (modules : Named) (name : List ℕ) (v : NamedModule) → named_at modules name ≡ Some v → module_of modules name ≡ Some v.module
+module_at modules name v is = ap (option_map alone) is
+
+-- what holds of the module of a name
+pub if_alone : (P : Module → Type 0) (o : Option NamedModule) → IfSome o (λ v. P v.module) → IfSome (option_map alone o) P
+if_alone P None h = tt
+if_alone P (Some v) h = h
 
 -- a name has the module that the table has at its bytes
 pub audited_found : (es : List (Vec ℕ × AuditedModule)) (name : List ℕ) → audited_of (audits_of es) name ≡ lookup (λ key. bytes_eq name key.items) es
@@ -34,9 +56,12 @@ audited_found (e ∷ es) name =
     ap (λ same. cond same (Some e.1) (audited_of (audits_of es) name)) (nat_list_eq_equiv.symm e.0.items name)
     ∙ ap (cond (bytes_eq name e.0.items) (Some e.1)) (audited_found es name)
 
--- the module of a name is the audited one
+-- the module of a name and its lines are those of the audited one
+pub named_found : (entries : Audits) (name : List ℕ) → named_at (named_of entries) name ≡ option_map with_its_lines (audited_of entries name)
+named_found entries name = lookup-map_values with_its_lines (λ other. bytes_eq other name) entries
+
 pub named_module : (entries : Audits) (name : List ℕ) → module_of (named_of entries) name ≡ option_map module_in (audited_of entries name)
-named_module entries name = lookup-map_values module_in (λ other. bytes_eq other name) entries
+named_module entries name = ap (option_map alone) (named_found entries name) ∙ map_twice alone with_its_lines (audited_of entries name)
 
 -- a new name stands behind the others
 pub audits_last : {S : Type 0} (table : IndexMap (Vec ℕ) AuditedModule S) (key : Vec ℕ) (v : AuditedModule) → module_of (named_of (audits_of table.entries)) key.items ≡ None
@@ -71,11 +96,67 @@ unfolding IsDistinct
 distinct_none = tt
 
 -- with a new name behind them, no two modules have one name still
-pub distinct_more : (modules : Named) (name : List ℕ) (v : Module) → module_of modules name ≡ None → HasDistinctNames modules → HasDistinctNames (modules ++ (name, v) ∷ [])
+pub distinct_more : (modules : Named) (name : List ℕ) (v : NamedModule) → named_at modules name ≡ None → HasDistinctNames modules → HasDistinctNames (modules ++ (name, v) ∷ [])
 unfolding IsDistinct
 distinct_more [] name v new distinct = (tt, tt)
 distinct_more (e ∷ es) name v new distinct =
-    let apart = not_first (bytes_eq e.0 name) e.1 (module_of es name) new in (
+    let apart = not_first (bytes_eq e.0 name) e.1 (named_at es name) new in (
       subst (AllByRecursion (λ other. bytes_eq e.0 other ≡ false)) (sym (map-append (λ f. f.0) es ((name, v) ∷ []))) (all_more (λ other. bytes_eq e.0 other ≡ false) (keys_of es) name distinct.0 apart.0),
       distinct_more es name v apart.1 distinct.1,
     )
+
+-- ---- a value in the place of another
+
+-- the audited modules of a table in which one is changed
+pub audits_set : (es : List (Vec ℕ × AuditedModule)) (name : List ℕ) (w : AuditedModule)
+    → audits_of (set_value (λ key. bytes_eq name key.items) es w) ≡ set_value (λ other. bytes_eq other name) (audits_of es) w
+audits_set [] name w = refl
+audits_set (e ∷ es) name w =
+    by_test (bytes_eq name e.0.items)
+    ∙ ap (λ rest. cond (bytes_eq name e.0.items) ((e.0.items, w) ∷ audits_of es) ((e.0.items, e.1) ∷ rest)) (audits_set es name w)
+    ∙ ap (λ same. cond same ((e.0.items, w) ∷ audits_of es) ((e.0.items, e.1) ∷ set_value (λ other. bytes_eq other name) (audits_of es) w)) (nat_list_eq_equiv.symm name e.0.items) where
+      by_test : (b : Bool) → audits_of (cond b ((e.0, w) ∷ es) (e ∷ set_value (λ key. bytes_eq name key.items) es w))
+          ≡ cond b ((e.0.items, w) ∷ audits_of es) ((e.0.items, e.1) ∷ audits_of (set_value (λ key. bytes_eq name key.items) es w))
+      by_test true = refl
+      by_test false = refl
+
+-- the named modules are changed so too
+pub named_set : (entries : Audits) (name : List ℕ) (w : AuditedModule) → named_of (set_value (λ other. bytes_eq other name) entries w) ≡ with_named (named_of entries) name (with_its_lines w)
+named_set [] name w = refl
+named_set (e ∷ es) name w =
+    by_test (bytes_eq e.0 name) ∙ ap (λ rest. cond (bytes_eq e.0 name) ((e.0, with_its_lines w) ∷ named_of es) ((e.0, with_its_lines e.1) ∷ rest)) (named_set es name w) where
+      by_test : (b : Bool) → named_of (cond b ((e.0, w) ∷ es) (e ∷ set_value (λ other. bytes_eq other name) es w))
+          ≡ cond b ((e.0, with_its_lines w) ∷ named_of es) ((e.0, with_its_lines e.1) ∷ named_of (set_value (λ other. bytes_eq other name) es w))
+      by_test true = refl
+      by_test false = refl
+
+module _ {A : Type 0} (test : List ℕ → Bool) (w : A) where
+  -- what holds of all holds of all still
+  pub all_set : (P : A → Type 0) (es : List (List ℕ × A)) → AllByRecursion (λ e. P e.1) es → P w → AllByRecursion (λ e. P e.1) (set_value test es w)
+  all_set P [] h new = tt
+  all_set P (e ∷ es) h new = by_test (test e.0) (all_set P es h.1 new) where
+    by_test : (b : Bool) → AllByRecursion (λ e. P e.1) (set_value test es w) → AllByRecursion (λ e. P e.1) (cond b ((e.0, w) ∷ es) (e ∷ set_value test es w))
+    by_test true rest = (new, h.1)
+    by_test false rest = (h.0, rest)
+
+  -- the names stay
+  pub keys_set : (es : List (List ℕ × A)) → keys_of (set_value test es w) ≡ keys_of es
+  keys_set [] = refl
+  keys_set (e ∷ es) = by_test (test e.0) (keys_set es) where
+    by_test : (b : Bool) → keys_of (set_value test es w) ≡ keys_of es → keys_of (cond b ((e.0, w) ∷ es) (e ∷ set_value test es w)) ≡ e.0 ∷ keys_of es
+    by_test true rest = refl
+    by_test false rest = ap (λ names. e.0 ∷ names) rest
+
+-- the same of the named modules
+pub distinct_set : (modules : Named) (name : List ℕ) (v : NamedModule) → HasDistinctNames modules → HasDistinctNames (with_named modules name v)
+distinct_set modules name v distinct = subst (IsDistinct bytes_eq) (sym (keys_set (λ other. bytes_eq other name) v modules)) distinct
+
+-- among modules with distinct names each is found by its name
+pub found_distinct : (modules : Named) → HasDistinctNames modules → AllByRecursion (λ e. named_at modules e.0 ≡ Some e.1) modules
+unfolding IsDistinct
+found_distinct [] distinct = tt
+found_distinct (e ∷ es) distinct = (ap (λ b. cond b (Some e.1) (named_at es e.0)) ((bytes_eq-Decides e.0 e.0).1 refl), later es distinct.0 (found_distinct es distinct.1)) where
+  later : (fs : Named) → AllByRecursion (λ other. bytes_eq e.0 other ≡ false) (keys_of fs) → AllByRecursion (λ f. named_at es f.0 ≡ Some f.1) fs
+      → AllByRecursion (λ f. named_at (e ∷ es) f.0 ≡ Some f.1) fs
+  later [] apart found = tt
+  later (f ∷ fs) apart found = (ap (λ b. cond b (Some e.1) (named_at es f.0)) apart.0 ∙ found.0, later fs apart.1 found.1)

@@ -8,6 +8,7 @@ use Rattle.lie_field.specs.declared.faults.FieldFault.{FieldFault}
 use Rattle.lie_field.specs.declared.faults.FieldFault.TheVariants as field
 use Rattle.lie_group.specs.declared.faults.LoadFault.{LoadFault}
 use Rattle.lie_group.specs.declared.faults.LoadFault.TheVariants as load
+use Rattle.lie_identities.specs.declared.cover_lines.CoverSum.{CoverSum}
 use Rattle.lie_identities.specs.declared.covering.CoverFault.{CoverFault}
 use Rattle.lie_identities.specs.declared.covering.CoverFault.TheVariants as cover
 use Rattle.lie_identities.specs.declared.faults.AuditFault.{AuditFault}
@@ -100,6 +101,7 @@ load_words (load.Dead r) = Some (codes "dead", r ∷ [])
 abbrev pub module_words : ModuleFault → Option Words
 module_words module_of.NoMemory = None
 module_words (module_of.NotMinuscule r) = Some (codes "notminuscule", r ∷ [])
+module_words (module_of.Table n) = Some (codes "table", pos n ∷ [])
 module_words (module_of.Wide n) = Some (codes "wide", pos n ∷ [])
 module_words (module_of.Heavy a) = Some (codes "heavy", pos a ∷ [])
 module_words (module_of.Huge r k) = Some (codes "huge", r ∷ pos k ∷ [])
@@ -108,6 +110,10 @@ module_words (module_of.Huge r k) = Some (codes "huge", r ∷ pos k ∷ [])
 abbrev pub cover_words : CoverFault → Words
 cover_words (cover.Dead r) = (codes "dead", r ∷ [])
 cover_words (cover.Uncovered j) = (codes "uncovered", pos j ∷ [])
+
+-- the words of a combination that is not the unit vector of its axis
+abbrev pub sum_words : CoverSum → Words
+sum_words why = (codes "sum", pos why.axis ∷ why.value ∷ [])
 
 -- the words of a fault of a call; want of memory has none
 abbrev pub words_of : CallFault → Option Words
@@ -118,4 +124,5 @@ words_of (call.Load why) = load_words why
 words_of (call.Module why) = module_words why
 words_of (call.Audit why) = audit_words why
 words_of (call.Cover why) = Some (cover_words why)
+words_of (call.Sum why) = Some (sum_words why)
 words_of call.Outside = Some (codes "outside", [])

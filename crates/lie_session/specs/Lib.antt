@@ -1,5 +1,6 @@
 pub mod Lines
 pub mod DatumLines
+pub mod Blocks
 pub mod Named
 pub mod Held
 pub mod Settings
@@ -17,4 +18,5 @@ pub mod Runs
 pub mod Loaded
 pub mod Printed
 pub mod Reduced
+pub mod Covered
 pub mod OneOutput

@@ -1,9 +1,13 @@
 -- What the code answers where a line leads somewhere: the outcome, in pieces. Want of memory is free.
 -- For proofs: no public clause cites it.
 -- Own.
-use Rattle.std.specs.Prelude.{◌≡◌, ◌≢◌, ℕ, List, Option, Result, Ok, Err, MatchOption}
-use Rattle.lie_session.specs.Held.{Block, LoadedGroup, without_block}
-use Rattle.lie_session.specs.Named.{module_of}
+use Rattle.std.specs.Prelude.{⊤, ◌≡◌, ◌≢◌, ℕ, ℤ, List, Option, Some, None, Result, Ok, Err, MatchOption, bytes_eq}
+use Rattle.std.specs.Map.{set_value}
+use Rattle.lie_identities.specs.CoverLines.{CoverLines, AddsCover}
+use Rattle.lie_identities.specs.declared.cover_lines.CoverSum.{CoverSum}
+use Rattle.lie_session.specs.Blocks.{Rows}
+use Rattle.lie_session.specs.Held.{LoadedGroup, without_block}
+use Rattle.lie_session.specs.Named.{Audits, audited_of, module_of}
 use Rattle.lie_session.specs.Outcomes.{Outcome, quiet, GoesOn}
 use Rattle.lie_session.specs.State.{dropped}
 use Rattle.lie_session.specs.declared.faults.CallFault.{CallFault}
@@ -16,8 +20,8 @@ abbrev pub IsLed : (Outcome → Type 0) → Outcome → Type 0
 IsLed P (Ok led) = P (Ok led)
 IsLed P (Err why) = why ≢ call.NoMemory → P (Err why)
 
--- what follows of a block that a row has joined
-abbrev pub Joined : LoadedGroup → Block → Outcome → Type 0
+-- what follows of rows that one has joined
+abbrev pub Joined : LoadedGroup → Rows → Outcome → Type 0
 Joined g b r = MatchOption (module_of g.modules b.name) (r ≡ quiet (stage.Loaded g)) (λ v. GoesOn g v b r)
 
 -- the text of an answer, with the group after it; a fault leaves the group but for its block
@@ -34,3 +38,10 @@ left_of _ = stage.Field
 abbrev pub IsObeyed : (Outcome → Type 0) → Stage → Result (Option (List ℕ)) CallFault → Stage → Type 0
 IsObeyed P at (Ok text) to = P (Ok (to, text))
 IsObeyed P at (Err why) to = why ≢ call.NoMemory → P (Err why) × (dropped to ≡ left_of at)
+
+-- what a call answers that adds a cover line to the audited module of a name, where there is one, and the modules after it
+abbrev pub AddsTo : Audits → List ℕ → ℕ → List ℤ → Option (Result ⊤ CoverSum) → Audits → Type 0
+AddsTo entries name j c result new =
+    MatchOption (audited_of entries name) ((result ≡ None) × (new ≡ entries))
+    (λ a. (x : Result ⊤ CoverSum) × (lines : CoverLines) × AddsCover a.module a.lines j c x lines × (result ≡ Some x)
+    × (new ≡ set_value (λ other. bytes_eq other name) entries (record a { lines = lines })))

@@ -1,13 +1,13 @@
 //! The faults of calls, and their words.
 ghost use Rattle.std.specs.Prelude.{◌≡◌, ◌≤◌, ◌++◌, Some, IfOk};
 ghost use Rattle.lie_session.specs.declared.faults.CallFault.TheVariants.{NoMemory};
-ghost use Rattle.lie_session.specs.Faults.{field_words, datum_words, rel_numbers, relation_name, graded_words, large_words, audit_words, load_words, module_words, cover_words, words_of};
+ghost use Rattle.lie_session.specs.Faults.{field_words, datum_words, rel_numbers, relation_name, graded_words, large_words, audit_words, load_words, module_words, cover_words, sum_words, words_of};
 
 use lie_audit::{AuditFault, Rel};
 use lie_datum::{DatumFault, RootId, Side};
 use lie_field::FieldFault;
 use lie_group::LoadFault;
-use lie_identities::CoverFault;
+use lie_identities::{CoverFault, CoverSum};
 use lie_script::FaultName;
 use lie_weight::ModuleFault;
 use std::alloc::{AllocError, Global};
@@ -24,6 +24,8 @@ pub(crate) enum CallFault {
     Audit(AuditFault),
     /// The module of a `reduce` line does not cover.
     Cover(CoverFault),
+    /// The combination of a `cover` line is not the unit vector of its axis.
+    Sum(CoverSum),
     /// No word has the matrix.
     Outside,
 }
@@ -295,6 +297,7 @@ fn words_of_module(alloc: Global, fault: &ModuleFault) -> Result<Words, AllocErr
     match fault {
         ModuleFault::NoMemory => Err(AllocError),
         ModuleFault::NotMinuscule(r) => words(alloc, b"notminuscule", &[r.number() as i128]),
+        ModuleFault::Table(n) => words(alloc, b"table", &[*n as i128]),
         ModuleFault::Wide(n) => words(alloc, b"wide", &[*n as i128]),
         ModuleFault::Heavy(a) => words(alloc, b"heavy", &[*a as i128]),
         ModuleFault::Huge(r, k) => words(alloc, b"huge", &[r.number() as i128, *k as i128]),
@@ -311,6 +314,13 @@ fn words_of_cover(alloc: Global, fault: &CoverFault) -> Result<Words, AllocError
     }
 }
 
+/// The words of a combination that is not the unit vector of its axis.
+fn words_of_sum(alloc: Global, sum: &CoverSum) -> Result<Words, AllocError>
+    ensures { IfOk result (λ w. sum_words sum.now ≡ (w.0.now, w.1.items)) }
+{
+    words(alloc, FaultName::Sum.text(), &[sum.axis as i128, sum.value])
+}
+
 impl CallFault {
     /// The words of the fault; want of memory has none.
     pub(crate) fn words(&self, alloc: Global) -> Result<Words, AllocError>
@@ -324,6 +334,7 @@ impl CallFault {
             CallFault::Module(fault) => words_of_module(alloc, fault),
             CallFault::Audit(fault) => words_of_audit(alloc, fault),
             CallFault::Cover(fault) => words_of_cover(alloc, fault),
+            CallFault::Sum(sum) => words_of_sum(alloc, sum),
             CallFault::Outside => words(alloc, FaultName::Outside.text(), &[]),
         }
     }

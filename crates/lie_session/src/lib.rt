@@ -1,13 +1,20 @@
 //! A session over the lines of a script, and the run of the program.
 //!
-//! `Session::line` replies to one line, and `lie` to all lines of a source. Contracts cite
-//! `specs/State.antt` (the stage of a session, and the line that it awaits), `specs/Outcomes.antt` (what
-//! a line leads to), `specs/Replies.antt` (the reply to a line), `specs/Output.antt` (the replies to a
-//! script) and `specs/Runs.antt` (the cause of each status). `specs/Loaded.antt`, `specs/Printed.antt` and
-//! `specs/OneOutput.antt` say what the replies are worth. What a line says is read by `lie_script`, frames
-//! are made by `lie_group`, forms by `lie_bruhat`, and texts by `lie_reply`. The crate stands on these,
-//! `lie_kit`, `lie_field`, `lie_datum`, `lie_const`, `lie_weight`, `lie_audit`, `lie_letters`, `lie_unip`, and
-//! on `indexmap` for the table of named modules.
+//! `Session::line` replies to one line, and `lie` to all lines of a source. Contracts cite these files of `specs/`:
+//!
+//! - `Lines.antt`, a script as lines; `DatumLines.antt` and `Blocks.antt`, the lines of a datum and of a block
+//! - `Named.antt`, the named modules with their cover lines; `Held.antt`, a loaded group; `State.antt`, the stage of a
+//!   session, and the line that it awaits
+//! - `Outcomes.antt`, what a line leads to; `Asked.antt`, the words whose forms are asked for, and the answers to `same`;
+//!   `Faults.antt`, the words of the faults of calls
+//! - `Replies.antt`, the reply to a line; `Changes.antt`, what it changes; `Output.antt`, the replies to a script;
+//!   `Runs.antt`, the cause of each status
+//! - what the replies are worth: `Loaded.antt`, the loaded group and `matrix`; `Printed.antt`, forms and `same`;
+//!   `Reduced.antt`, `reduce` and its rows; `Covered.antt`, `cover`; `OneOutput.antt`, that a script has one output
+//!
+//! `Settings.antt`, `Ready.antt`, `Obeyed.antt` and `Steps.antt` serve proofs alone. What a line says is read by `lie_script`, frames
+//! and groups are made by `lie_group`, forms by `lie_bruhat`, matrices are reduced by `lie_reduce`, and texts are made by `lie_reply`. The
+//! crate stands on these, on the crates below them, on `lie_kit`, and on `indexmap` for the table of named modules.
 #![tactic(auto)]
 
 mod block;
@@ -21,9 +28,11 @@ mod modules;
 mod output;
 mod program;
 mod reply;
+mod rows;
 mod session;
 mod stage;
 mod status;
+mod table;
 mod talk;
 
 pub use mode::Mode;

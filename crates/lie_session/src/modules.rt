@@ -1,12 +1,15 @@
 //! The named modules of a loaded group.
-ghost use Rattle.std.specs.Prelude.{◌≡◌, ◌∷◌, ◌++◌, [], None, OnOk, OnErr, bytes_eq};
-ghost use Rattle.std.specs.Option.{option_copied};
+ghost use Rattle.std.specs.Prelude.{◌≡◌, ◌≤◌, ◌∷◌, ◌++◌, [], None, OnOk, OnErr, bytes_eq, length};
+ghost use Rattle.std.specs.Option.{IfSome, option_copied};
 ghost use Rattle.std.specs.List.{IsDistinct-prop};
 ghost use Rattle.std.specs.Map.{keys_of};
+ghost use Rattle.lie_const.specs.Modules.{dimension};
+ghost use Rattle.lie_datum.specs.RootDatum.{IsWithin};
 ghost use Rattle.lie_session.specs.Named.{audits_of, named_of, module_of, audited_of, listed_of, HasDistinctNames};
+ghost use Rattle.lie_session.specs.Obeyed.{AddsTo};
 
 use indexmap::IndexMap;
-use lie_audit::Audited;
+use lie_audit::{Audited, CoverSum};
 use lie_script::Names;
 use std::alloc::{AllocError, Global};
 use std::marker::Model;
@@ -60,6 +63,24 @@ impl Modules {
         ensures { option_copied result ≡ audited_of self.now.entries name.now }
     {
         self.table.get(name)
+    }
+
+    /// Adds a cover line for an axis, which counts from 1, to the module of a name; None where no module has it.
+    pub(crate) fn add_cover(
+        &mut self,
+        name: &[u8],
+        axis: usize,
+        c: Vec<i64>,
+    ) -> Option<Result<(), CoverSum>>
+        requires first { 1 ≤ axis }
+        requires fits { IfSome (audited_of self.old.entries name.now) (λ a. (axis ≤ a.datum.base.dim) × (length c.items ≡ dimension a.module)) }
+        requires small { IsWithin 1000000 c.items }
+        ensures { AddsTo self.old.entries name.now axis c.items result self.new.entries }
+    {
+        match self.table.get_mut(name) {
+            Some(audited) => Some(audited.add_cover(axis, c)),
+            None => None,
+        }
     }
 }
 

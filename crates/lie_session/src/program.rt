@@ -6,6 +6,7 @@ ghost use Rattle.lie_session.specs.OneOutput.{OneOutputUpToCollect, OneOutput};
 ghost use Rattle.lie_session.specs.Printed.{FormsAreJoined, EqualRepliesDecideWords, SameDecidesWords};
 ghost use Rattle.lie_session.specs.Loaded.{GroupsAreLoaded, MatricesAreProducts, JoinedWordsHaveOneMatrix};
 ghost use Rattle.lie_session.specs.Reduced.{BlocksAreCovering, MatricesAreReduced};
+ghost use Rattle.lie_session.specs.Covered.{CoverLinesAreKept};
 ghost use Rattle.lie_session.specs.Runs.{mode_of, input_limit, CauseOf, ReadCounts, WriteCounts, Complete, Exceeds};
 ghost use Rattle.lie_session.specs.Steps.{stop_status, AnsweredAtEnd, Finished, Turned, Ran};
 ghost use Rattle.lie_session.specs.State.{fresh, ended_status};
@@ -179,6 +180,10 @@ pub fn lie<S: Source, K: Sink>(
     // that has the matrix, or it is the refusal `outside`, where no word has it.
     ensures blocks { BlocksAreCovering }
     ensures reductions { MatricesAreReduced }
+
+    // `cover` keeps a line for an axis exactly where its combination of the weights is the unit vector of the axis, and else names the first
+    // coordinate that differs.
+    ensures cover_lines { CoverLinesAreKept }
 {
     match asked(words) {
         Some(mode) => run(alloc, mode, source, sink),

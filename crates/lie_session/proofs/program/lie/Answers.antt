@@ -1,5 +1,6 @@
 use Rattle.std.proofs.Common.{sym, ◌∙◌}
 use Rattle.lie_session.proofs.CauseLemmas.{complete_from}
+use Rattle.lie_session.proofs.CoveredLemmas.{cover_lines_are_kept}
 use Rattle.lie_session.proofs.LoadedLemmas.{fields_are_sized, data_are_loaded, groups_are_loaded, matrices_are_products, joined_words_have_one_matrix}
 use Rattle.lie_session.proofs.OneOutputLemmas.{one_output_up_to_collect, one_output}
 use Rattle.lie_session.proofs.PrintedLemmas.{forms_are_joined, equal_replies_decide_words, same_decides_words}
@@ -83,3 +84,9 @@ returns-in-None-clause-blocks g c = blocks_are_covering
 
 pub returns-in-None-clause-reductions : goal.returns-in-None-clause-reductions
 returns-in-None-clause-reductions g c = matrices_are_reduced
+
+pub returns-in-Some-clause-cover_lines : goal.returns-in-Some-clause-cover_lines
+returns-in-Some-clause-cover_lines g c = cover_lines_are_kept
+
+pub returns-in-None-clause-cover_lines : goal.returns-in-None-clause-cover_lines
+returns-in-None-clause-cover_lines g c = cover_lines_are_kept
