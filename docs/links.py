@@ -1,5 +1,5 @@
 #!/usr/bin/env python3
-"""Follows the links of README.md and of the pages in docs/ and bench/.
+"""Follows the links of README.md and of the pages in docs/, bench/, data/ and bridges/.
 
     python3 docs/links.py
 
@@ -80,7 +80,7 @@ def found(term, name, first):
 def main():
     faults, links = [], 0
     first = os.path.join(TOP, "README.md")
-    for page in [first, *sorted(glob.glob(os.path.join(TOP, "docs", "*.md"))), os.path.join(TOP, "bench", "README.md")]:
+    for page in [first, *(page for part in ("docs", "bench", "data", "bridges") for page in sorted(glob.glob(os.path.join(TOP, part, "*.md"))))]:
         links += len(LINK.findall(prose(read(page))))
         faults += [f"{os.path.relpath(page, TOP)}: {why}" for why in (*broken(page), *named(page))]
     terms = [line.rpartition(": ") for line in read(os.path.join(TOP, "docs", "terms.txt")).splitlines() if line and not line.startswith("#")]

@@ -39,10 +39,11 @@ not_dead : (f : FiniteField) (d : RootDatum) (v : Module) (r : ℤ) → IsLive f
 not_dead f d v r live p = p.dead (subst (IsLiveAt f v) (sym p.number) (live p.k p.first p.last))
 
 -- ---- faults by kind
--- a fault of a carrier; no weight of one is not minuscule
+-- a fault of a carrier; no weight of one is not minuscule, and it has no table
 abbrev carriers_fault : ModuleFault → LoadFault
 carriers_fault module_fault.NoMemory = NoMemory
 carriers_fault (module_fault.NotMinuscule r) = NoMemory
+carriers_fault (module_fault.Table n) = NoMemory
 carriers_fault (module_fault.Wide n) = CarrierWide n
 carriers_fault (module_fault.Heavy a) = Heavy a
 carriers_fault (module_fault.Huge r k) = Huge r k

@@ -1,5 +1,5 @@
 -- SL_2 over the field of two elements: it loads, by computation. Its carrier is the sum of the adjoint module and the natural one.
-use Rattle.std.proofs.Common.{◌≡◌, ◌≢◌, ℕ, zero, suc, ◌<◌, ◌≤◌, List, [], ◌∷◌, true, false, Ok, Err, ℤ, pos, negsuc, neg_ℤ, refl, sym, ap, ◌∙◌, subst, arith, ⊎_elim}
+use Rattle.std.proofs.Common.{◌≡◌, ◌≢◌, ℕ, zero, suc, ◌<◌, ◌≤◌, List, [], ◌∷◌, true, false, Ok, Err, ℤ, pos, negsuc, neg_ℤ, refl, sym, ap, ◌∙◌, subst, arith, ⊎_elim, inl}
 use Rattle.std.specs.Prelude.{unsigned_abs, ◌≤ℤ◌}
 use Rattle.std.specs.List.{All, Contains}
 use Rattle.std.specs.List.Sorted.{IsStrictlySortedBy}
@@ -30,7 +30,9 @@ use Rattle.lie_identities.specs.declared.relations.Rel.TheVariants.{S1, S6, S7}
 use Rattle.lie_identities.specs.AuditRelations.{relations}
 use Rattle.lie_identities.specs.Audit.{IsIdentity, IsMet, MeetsIdentities}
 use Rattle.lie_identities.specs.Covers.{IsLiveAt}
+use Rattle.lie_identities.specs.CoverLines.{no_lines}
 use Rattle.lie_identities.proofs.CoveredAxes.{cover_axes}
+use Rattle.lie_identities.proofs.LineLemmas.{no_cover_lines}
 use Rattle.lie_audit.proofs.AuditTest.{graded_from, met_from}
 use Rattle.lie_group.specs.declared.faults.LoadFault.{LoadFault}
 use Rattle.lie_group.specs.declared.faults.LoadFault.TheVariants.{NoMemory}
@@ -290,7 +292,7 @@ unfolding two of_int element residues shift leading degree order
 sum_lives = record { row = 1; col = 2; row_within = omega arith; col_within = omega arith; nonzero = λ e. (let h : ◌≡◌ {A = ℕ} 1 0 = e in omega (arith, h)) }
 
 abbrev a1_group : GroupData
-a1_group = record { frame = frame; carrier = record { «module» = sum; datum = a1; constants = a1_table; signs = signs } }
+a1_group = record { frame = frame; carrier = record { «module» = sum; datum = a1; constants = a1_table; signs = signs; lines = no_lines } }
 
 a1_loads : LoadsGroup frame (Ok a1_group)
 a1_loads = (
@@ -299,12 +301,13 @@ a1_loads = (
     frame = a1_made;
     carrier = record {
       is_carrier = sum_carrier;
-      audited = record { shape = sum_shape; light = sum_light; meets = sum_meets };
+      audited = record { loaded = a1_loaded; shape = sum_shape; light = sum_light; meets = sum_meets; cover = no_cover_lines a1 sum };
       audited_for = record { datum = refl; constants = refl; signs = refl };
+      no_cover = refl;
     };
     covering = record {
       live = λ k one last. (let same : 1 ≡ k = omega (arith, one, last) in subst (λ j. IsLiveAt two sum (pos j)) same sum_lives);
-      axes = λ j p q. cover_axes a1 eta a1_adjoint sum j a1_loaded adjoint_is sum_is_carrier p q;
+      axes = λ j p q. inl (cover_axes a1 eta a1_adjoint sum j a1_loaded adjoint_is sum_is_carrier p q);
     };
   },
 )

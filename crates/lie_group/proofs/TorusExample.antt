@@ -1,5 +1,5 @@
 -- The torus of rank 1 over the field of two elements: it loads, by computation, and no other answer comes. Its carrier has one weight.
-use Rattle.std.proofs.Common.{◌≡◌, ◌≢◌, ℕ, zero, suc, ◌-◌, ◌<◌, ◌≤◌, List, [], ◌∷◌, Ok, Err, ℤ, pos, refl, sym, subst, arith, get_or, ⊎_elim}
+use Rattle.std.proofs.Common.{◌≡◌, ◌≢◌, ℕ, zero, suc, ◌-◌, ◌<◌, ◌≤◌, List, [], ◌∷◌, Ok, Err, ℤ, pos, refl, sym, subst, arith, get_or, ⊎_elim, inl}
 use Rattle.std.specs.Prelude.{unsigned_abs}
 use Rattle.std.specs.List.{All}
 use Rattle.std.specs.List.Sorted.{IsStrictlySortedBy}
@@ -27,7 +27,9 @@ use Rattle.lie_weight.specs.Sums.{IsSum}
 use Rattle.lie_weight.specs.Carriers.{AreOrbitsOf, no_axis, taken, IsPassedOver, IsModuleOfOrbit, IsCarrier}
 use Rattle.lie_identities.specs.AuditRelations.{relations}
 use Rattle.lie_identities.specs.Audit.{IsMet, MeetsIdentities}
+use Rattle.lie_identities.specs.CoverLines.{no_lines}
 use Rattle.lie_identities.proofs.CoveredAxes.{cover_axes}
+use Rattle.lie_identities.proofs.LineLemmas.{no_cover_lines}
 use Rattle.lie_group.specs.declared.faults.LoadFault.{LoadFault}
 use Rattle.lie_group.specs.declared.faults.LoadFault.TheVariants.{NoMemory}
 use Rattle.lie_group.specs.Loading.{MakesFrame}
@@ -158,7 +160,7 @@ line_carrier = (nothing, nothing_is_adjoint, (line_is_carrier, omega arith, not_
 
 -- ---- the group
 abbrev t1_group : GroupData
-t1_group = record { frame = t1_frame; carrier = record { «module» = line; datum = t1; constants = t1_table; signs = no_signs } }
+t1_group = record { frame = t1_frame; carrier = record { «module» = line; datum = t1; constants = t1_table; signs = no_signs; lines = no_lines } }
 
 t1_meets : MeetsIdentities t1 t1_table eta line
 unfolding relations
@@ -171,12 +173,13 @@ t1_loads = (
     frame = t1_made;
     carrier = record {
       is_carrier = line_carrier;
-      audited = record { shape = line_shape; light = e1_alone_light; meets = t1_meets };
+      audited = record { loaded = t1_loaded; shape = line_shape; light = e1_alone_light; meets = t1_meets; cover = no_cover_lines t1 line };
       audited_for = record { datum = refl; constants = refl; signs = refl };
+      no_cover = refl;
     };
     covering = record {
       live = λ k one last. absurd (omega (arith, one, last));
-      axes = λ j p q. cover_axes t1 eta nothing line j t1_loaded nothing_is_adjoint line_is_carrier p q;
+      axes = λ j p q. inl (cover_axes t1 eta nothing line j t1_loaded nothing_is_adjoint line_is_carrier p q);
     };
   },
 )

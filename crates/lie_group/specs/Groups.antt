@@ -18,6 +18,7 @@ use Rattle.lie_weight.specs.declared.faults.ModuleFault.{ModuleFault}
 use Rattle.lie_weight.specs.declared.faults.ModuleFault.TheVariants as module_fault
 use Rattle.lie_identities.specs.Audit.{MeetsIdentities, IsAuditFault}
 use Rattle.lie_identities.specs.Audited.{AuditedModule, IsAudited}
+use Rattle.lie_identities.specs.CoverLines.{no_lines}
 use Rattle.lie_identities.specs.Covers.{IsCovering, IsFirstDead}
 use Rattle.lie_identities.specs.declared.faults.AuditFault.{AuditFault}
 use Rattle.lie_identities.specs.declared.faults.AuditFault.TheVariants as audit_fault
@@ -49,17 +50,18 @@ pub record IsAuditedFor (f : SignedFrame) (a : AuditedModule) : Type 0 where
   pub constants : a.constants ≡ f.constants
   pub signs : a.signs ≡ f.signs
 
--- it is the carrier of the frame, audited for it
+-- it is the carrier of the frame, audited for it, without cover lines
 pub record IsAuditedCarrier (f : SignedFrame) (a : AuditedModule) : Type 0 where
   pub is_carrier : IsCarrierOf f a.module
   pub audited : IsAudited a
   pub audited_for : IsAuditedFor f a
+  pub no_cover : a.lines ≡ no_lines
 
 -- the frame is that of its field and datum; the module is its carrier, audited for it and covering over its field
 pub record IsGroup (g : GroupData) : Type 0 where
   pub frame : IsFrameOf g.frame.field g.frame.datum g.frame
   pub carrier : IsAuditedCarrier g.frame g.carrier
-  pub covering : IsCovering g.frame.field g.frame.datum g.carrier.module
+  pub covering : IsCovering g.frame.field g.frame.datum g.carrier.module g.carrier.lines
 
 -- ---- why there is none
 -- the fault is that of the audit of the carrier

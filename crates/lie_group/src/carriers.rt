@@ -18,7 +18,7 @@ fn carrier_fault(frame: &Frame, why: ModuleFault) -> LoadFault
 {
     match why {
         ModuleFault::NoMemory => LoadFault::NoMemory,
-        ModuleFault::NotMinuscule(_) => unreachable!(),
+        ModuleFault::NotMinuscule(_) | ModuleFault::Table(_) => unreachable!(),
         ModuleFault::Wide(n) => LoadFault::CarrierWide(n),
         ModuleFault::Heavy(a) => LoadFault::Heavy(a),
         ModuleFault::Huge(r, k) => LoadFault::Huge(r, k),
@@ -52,7 +52,7 @@ pub(crate) fn audited_carrier(alloc: Global, frame: &Frame) -> Result<Audited, L
 /// The fault of a frame that has this one of its audited carrier.
 fn cover_fault(frame: &Frame, carrier: &Audited, why: CoverFault) -> LoadFault
     requires carrier { IsAuditedCarrier frame.now carrier.now }
-    requires fault { Covers frame.now.field frame.now.datum carrier.now.module (Err why) }
+    requires fault { Covers frame.now.field frame.now.datum carrier.now.module carrier.now.lines (Err why) }
     ensures { IsGroupFault frame.now result }
 {
     frame.lawful();
@@ -66,7 +66,7 @@ fn cover_fault(frame: &Frame, carrier: &Audited, why: CoverFault) -> LoadFault
 /// Tests whether the audited carrier of a frame is covering.
 pub(crate) fn test_covering(frame: &Frame, carrier: &Audited) -> Result<(), LoadFault>
     requires { IsAuditedCarrier frame.now carrier.now }
-    ensures { MatchResult result (λ _. IsCovering frame.now.field frame.now.datum carrier.now.module) (IsGroupFault frame.now) }
+    ensures { MatchResult result (λ _. IsCovering frame.now.field frame.now.datum carrier.now.module carrier.now.lines) (IsGroupFault frame.now) }
 {
     match carrier.covering(&frame.field, &frame.datum) {
         Ok(()) => Ok(()),

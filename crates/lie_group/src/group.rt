@@ -12,6 +12,7 @@ ghost use Rattle.lie_unip.specs.Forms.{IsForm, IsFormOf};
 ghost use Rattle.lie_bruhat.specs.Products.{IsProduct, IsInverse};
 ghost use Rattle.lie_identities.specs.Audit.{Audits, HasLightWeights};
 ghost use Rattle.lie_identities.specs.Audited.{audited_module};
+ghost use Rattle.lie_identities.specs.CoverLines.{no_lines};
 ghost use Rattle.lie_identities.specs.Covers.{IsCovering};
 ghost use Rattle.lie_audit.specs.WordMatrix.{word_matrix as matrix_of_word};
 ghost use Rattle.lie_reduce.specs.Reduction.{Reduces};
@@ -106,12 +107,13 @@ impl Group {
         inv(alloc, &self.frame, a)
     }
 
-    /// The module, audited for the group; or what fails first.
+    /// The module, audited for the group, without cover lines; or what fails first.
     pub fn audit(&self, alloc: Global, space: Module) -> Result<Audited, AuditFault>
         requires shape { IsModule self.now.frame.datum space }
         requires light { HasLightWeights space }
         ensures audits { Audits self.now.frame.datum self.now.frame.constants (eta_of self.now.frame.signs) space (audited_module result) }
         ensures kept { IfOk result (IsAuditedFor self.now.frame) }
+        ensures lines { IfOk result (λ a. a.lines ≡ no_lines) }
     {
         self.frame.lawful();
         let Frame {
@@ -143,7 +145,7 @@ impl Group {
         m: &Dense,
     ) -> Result<Option<Form>, AllocError>
         requires audited { IsAuditedFor self.now.frame space.now }
-        requires covering { IsCovering self.now.frame.field self.now.frame.datum space.now.module }
+        requires covering { IsCovering self.now.frame.field self.now.frame.datum space.now.module space.now.lines }
         requires dimension { m.now.height ≡ dimension space.now.module }
         requires elem { AllElem (field_ring self.now.frame.field) m.now }
         ensures { IfOk result (Reduces self.now.frame space.now.module m.now) }

@@ -34,3 +34,5 @@ pub mod BoundLemmas
 pub mod AuditLemmas
 pub mod CoveredAxes
 pub mod CoverLemmas
+pub mod CoverSums
+pub mod LineLemmas

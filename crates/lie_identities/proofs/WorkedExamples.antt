@@ -1,9 +1,10 @@
 -- The relations at work on the natural module of SL_2, with the weights 1 and -1, and on one with a 2 in place of a 1.
--- No relation of A_1 reads a structure constant, so the table of constants is any.
-use Rattle.std.proofs.Common.{◌≡◌, ℤ, pos, negsuc, [], ◌∷◌, replicate, refl}
+-- No relation of A_1 reads a structure constant, so the table of constants is any. Then a cover line of a torus.
+use Rattle.std.proofs.Common.{◌≡◌, zero, suc, ℤ, pos, negsuc, [], ◌∷◌, replicate, refl, ap, arith}
+use Rattle.std.proofs.lemmas.Int.{ints}
 use Rattle.lie_ring.specs.Matrices.{Matrix, entry}
-use Rattle.lie_datum.specs.Vectors.{Vector}
-use Rattle.lie_datum.specs.RootDatum.{simple}
+use Rattle.lie_datum.specs.Vectors.{Vector, combination, unit, entry as coordinate}
+use Rattle.lie_datum.specs.RootDatum.{simple, IsWithin}
 use Rattle.lie_datum.specs.RootList.{RootDatum}
 use Rattle.lie_const.specs.ConstantTables.{ConstantTable}
 use Rattle.lie_const.specs.Modules.{Module, root_element}
@@ -11,6 +12,7 @@ use Rattle.lie_const.specs.Signs.{Signs}
 use Rattle.lie_poly.specs.Polynomials.{monomial, laurent}
 use Rattle.lie_identities.specs.declared.relations.Rel.TheVariants.{S1, S6, S7}
 use Rattle.lie_identities.specs.AuditRelations.{relations}
+use Rattle.lie_identities.specs.CoverLines.{IsCombination, IsFirstDifferentCoordinate}
 use Rattle.lie_identities.specs.Audit.{left_matrix, right_matrix, IsIdentity}
 
 abbrev weight : ℤ → Vector
@@ -74,3 +76,21 @@ module _ (c : ConstantTable) where
 
   doubled_right : entry laurent.zero (right_matrix a1 c signs (space (pos 2)) (S6 1)) 0 0 ≡ monomial (pos 1) (pos 1) (pos 0)
   doubled_right = refl
+
+-- ---- a torus of rank 1, with the weights 2 and 3: the line (-1, 1) covers its axis, and (1, 1) gives 5
+abbrev torus : Module
+torus = record { positive = 0; weights = weight (pos 2) ∷ (weight (pos 3) ∷ []); powers = [] }
+
+difference_is_the_axis : combination (negsuc 0 ∷ (pos 1 ∷ [])) torus.weights ≡ unit 8 1
+difference_is_the_axis = refl
+
+difference_is_a_line : IsCombination torus 1 (negsuc 0 ∷ (pos 1 ∷ []))
+difference_is_a_line = record { count = refl; small = small; sum = λ k l. ap (λ (x : Vector). coordinate x k) difference_is_the_axis }
+  where
+    small : IsWithin 1000000 (negsuc 0 ∷ (pos 1 ∷ []))
+    small zero d l = omega arith
+    small (suc zero) d l = omega arith
+    small (suc (suc k)) d l = absurd (let never : ⊥ = omega (arith, l) in never)
+
+sum_is_5 : IsFirstDifferentCoordinate torus 1 (pos 1 ∷ (pos 1 ∷ [])) 1 (pos 5)
+sum_is_5 = record { first = omega arith; last = omega arith; here = refl; different = λ e. (let k : pos 5 ≡ pos 1 = e in omega (arith, ints, k)); before = λ k l. absurd (let never : ⊥ = omega (arith, l) in never) }

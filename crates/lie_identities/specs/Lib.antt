@@ -10,6 +10,7 @@ pub mod Comparison
 pub mod Sides
 pub mod Grading
 pub mod Sizes
+pub mod CoverLines
 pub mod Audited
 pub mod Covers
 pub mod CoverParts

@@ -11,6 +11,7 @@ ghost use Rattle.lie_identities.specs.declared.faults.AuditFault.TheVariants.{No
 ghost use Rattle.lie_identities.specs.AuditRelations.{side_size};
 ghost use Rattle.lie_identities.specs.Audit.{Audits, HasLightWeights, IsGraded, IsMet, MeetsIdentities, IsAuditFault};
 ghost use Rattle.lie_identities.specs.Audited.{audited_module, IsRelationFault};
+ghost use Rattle.lie_identities.specs.CoverLines.{no_lines};
 ghost use Rattle.lie_identities.specs.Sides.{HasRoot, IsRelationOf};
 
 use crate::audited::Audited;
@@ -29,7 +30,7 @@ use lie_ring::RingStop;
 use lie_weight::Module;
 use std::alloc::Global;
 
-/// The module, audited for a datum, its constants and its signs; or what fails first.
+/// The module, audited for a datum, its constants and its signs, without cover lines; or what fails first.
 pub fn audit(
     alloc: Global,
     datum: &Datum,
@@ -42,7 +43,7 @@ pub fn audit(
     requires shape { IsModule datum.now space }
     requires light { HasLightWeights space }
     ensures audits { Audits datum.now consts.now (eta_of signs.now) space (audited_module result) }
-    ensures kept { IfOk result (λ a. a ≡ record { «module» = space; datum = datum.now; constants = consts.now; signs = signs.now }) }
+    ensures kept { IfOk result (λ a. a ≡ record { «module» = space; datum = datum.now; constants = consts.now; signs = signs.now; lines = no_lines }) }
 {
     test_module(alloc, datum, consts, signs, &space)?;
     Ok(Audited::of(datum, consts, signs, space))

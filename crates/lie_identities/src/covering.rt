@@ -1,14 +1,15 @@
 //! Whether a module is covering.
 
 ghost use Rattle.std.specs.Prelude.{◌≡◌, ℕ, ◌+◌, ◌<◌, ◌≤◌, pos, IsTrue, ◌↔◌, MatchOption, slice_index_or, []};
-ghost use Rattle.lie_datum.specs.Vectors.{times, unit};
+ghost use Rattle.lie_datum.specs.Vectors.{times};
 ghost use Rattle.lie_datum.specs.RootDatum.{IsWithin};
 ghost use Rattle.lie_datum.specs.RootList.{IsNumber};
 ghost use Rattle.lie_const.specs.Modules.{IsModule, dimension};
 ghost use Rattle.lie_identities.specs.Audit.{HasLightWeights};
-ghost use Rattle.lie_identities.specs.Covers.{IsLiveAt, IsLive, less_axis, IsCovered, IsFirstDead, IsFirstUncovered, Covers};
+ghost use Rattle.lie_identities.specs.Covers.{IsLiveAt, IsLive, less_axis, IsCovered, IsAxisCovered, IsFirstDead, IsFirstUncovered, Covers};
 ghost use Rattle.lie_identities.specs.CoverParts.{IsLiveColumn, LowersToZero, IsCoveredTimes};
 
+use crate::cover_lines::{CoverSet, unit};
 use lie_datum::{Datum, RootId, Vector};
 use lie_field::Field;
 use lie_mat::Mat;
@@ -26,7 +27,7 @@ pub enum CoverFault {
     /// The first positive root whose matrix is 0 over the field.
     #[error("the matrix of root {} is 0 over the field", .0.number())]
     Dead(RootId),
-    /// The first axis, counted from 1, that no weight covers.
+    /// The first axis, counted from 1, that no weight covers and that has no cover line.
     #[error("axis {0} is not covered")]
     Uncovered(usize),
 }
@@ -93,16 +94,6 @@ fn multiple(by: u8, weight: &Vector) -> Vector
     multiple
 }
 
-/// The unit vector of an axis, which counts from 1.
-fn unit(axis: usize) -> Vector
-    requires { (1 ≤ axis) × (axis ≤ 8) }
-    ensures { result ≡ unit 8 axis }
-{
-    let mut unit = [0; 8];
-    unit[axis - 1] = 1;
-    unit
-}
-
 /// A multiple of a weight less the unit vector of an axis, which counts from 1.
 pub fn less_axis(times: u8, weight: &Vector, axis: usize) -> Vector
     requires weight { IsWithin 1000000 weight.now }
@@ -140,7 +131,7 @@ fn is_covered_times(datum: &Datum, space: &Module, times: u8, axis: usize) -> bo
     false
 }
 
-/// Whether an axis, which counts from 1, is covered.
+/// Whether a weight of the module covers an axis, which counts from 1.
 fn is_covered(datum: &Datum, space: &Module, axis: usize) -> bool
     requires light { HasLightWeights space.now }
     requires axis { (1 ≤ axis) × (axis ≤ 8) }
@@ -154,30 +145,47 @@ fn is_covered(datum: &Datum, space: &Module, axis: usize) -> bool
     false
 }
 
+/// Whether an axis has a cover line, or a weight of the module covers it.
+fn is_axis_covered(datum: &Datum, space: &Module, lines: &CoverSet, axis: usize) -> bool
+    requires light { HasLightWeights space.now }
+    requires axis { (1 ≤ axis) × (axis ≤ 8) }
+    ensures { IsTrue result ↔ IsAxisCovered datum.now space.now lines.now axis }
+{
+    match lines.get(axis) {
+        Some(_) => true,
+        None => is_covered(datum, space, axis),
+    }
+}
+
 /// The first axis that is not covered.
-fn first_uncovered(datum: &Datum, space: &Module) -> Option<usize>
+fn first_uncovered(datum: &Datum, space: &Module, lines: &CoverSet) -> Option<usize>
     requires { HasLightWeights space.now }
-    ensures { MatchOption result ((j : ℕ) → 1 ≤ j → j ≤ datum.now.base.dim → IsCovered datum.now space.now j) (IsFirstUncovered datum.now space.now) }
+    ensures { MatchOption result ((j : ℕ) → 1 ≤ j → j ≤ datum.now.base.dim → IsAxisCovered datum.now space.now lines.now j) (IsFirstUncovered datum.now space.now lines.now) }
 {
     datum.loaded();
     for axis in 0..datum.d() {
-        if !is_covered(datum, space, axis + 1) {
+        if !is_axis_covered(datum, space, lines, axis + 1) {
             return Some(axis + 1);
         }
     }
     None
 }
 
-/// Tests whether a module is covering.
-pub(crate) fn module_covers(field: &Field, datum: &Datum, space: &Module) -> Result<(), CoverFault>
+/// Tests whether a module is covering, with these cover lines.
+pub(crate) fn module_covers(
+    field: &Field,
+    datum: &Datum,
+    space: &Module,
+    lines: &CoverSet,
+) -> Result<(), CoverFault>
     requires space { IsModule datum.now space.now }
     requires light { HasLightWeights space.now }
-    ensures { Covers field.now datum.now space.now result }
+    ensures { Covers field.now datum.now space.now lines.now result }
 {
     if let Some(r) = first_dead(field, datum, space) {
         return Err(CoverFault::Dead(r));
     }
-    match first_uncovered(datum, space) {
+    match first_uncovered(datum, space, lines) {
         Some(axis) => Err(CoverFault::Uncovered(axis)),
         None => Ok(()),
     }

@@ -9,8 +9,9 @@
 //! `specs/Audited.antt` has what an `Audited` keeps. The faults exclude one another and success (`one_audit_answer`), and the
 //! modules of `lie_weight` have weights that are small enough (`adjoint_is_light`, `orbit_is_light`, `carrier_is_light`).
 //!
-//! `Audited::covering` tells whether each root acts over a field and each axis is reached by weights: `specs/Covers.antt`;
-//! that a carrier covers its axes is a law (`carriers_cover_axes`). The crate is the lower half of lie_audit. It stands on
+//! `Audited::covering` tells whether each root acts over a field and each axis is covered: by a weight (`specs/Covers.antt`),
+//! or by a cover line (`specs/CoverLines.antt`), which `Audited::add_cover` keeps where the combination that it gives is the
+//! unit vector of its axis. That weights of a carrier cover its axes is a law (`carriers_cover_axes`). The crate is the lower half of lie_audit. It stands on
 //! `lie_weight`, `lie_orbit`, `lie_poly`, `lie_const`, `lie_field`, `lie_mat`, `lie_ring`, `lie_datum`, `lie_base` and
 //! `thiserror`.
 #![tactic(auto)]
@@ -22,6 +23,7 @@ mod auditing;
 mod bounds;
 mod columns;
 mod compare;
+mod cover_lines;
 mod covering;
 mod factors;
 mod faults;
@@ -36,6 +38,7 @@ mod steps;
 
 pub use audited::Audited;
 pub use auditing::audit;
+pub use cover_lines::CoverSum;
 pub use covering::{CoverFault, less_axis};
 pub use faults::AuditFault;
 pub use laws::{

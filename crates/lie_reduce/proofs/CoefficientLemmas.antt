@@ -22,6 +22,7 @@ use Rattle.lie_letters.specs.SignedFrames.{SignedFrame, IsLawfulSigned}
 use Rattle.lie_const.specs.Signs.{eta_of}
 use Rattle.lie_identities.specs.Audit.{MeetsIdentities}
 use Rattle.lie_identities.specs.Audited.{AuditedModule, IsAudited}
+use Rattle.lie_identities.specs.CoverLines.{AreCoverLines}
 use Rattle.lie_identities.specs.Covers.{IsLiveAt}
 use Rattle.lie_reduce.specs.Triangular.{IsSquare}
 use Rattle.lie_reduce.specs.Reduction.{CoversFrame}
@@ -75,6 +76,8 @@ covering_for f a lawful audited h = record {
       subst (λ d. MeetsIdentities d f.constants (eta_of f.signs) a.module) h.datum
       (subst (λ c. MeetsIdentities a.datum c (eta_of f.signs) a.module) h.constants
       (subst (λ s. MeetsIdentities a.datum a.constants (eta_of s) a.module) h.signs audited.meets));
+  lines = a.lines;
+  cover = subst (λ d. AreCoverLines d a.module a.lines) h.datum audited.cover;
   covering = h.covering;
 }
 

@@ -12,7 +12,7 @@ use Rattle.lie_field.specs.FieldRing.{field_ring, field_is_ring}
 use Rattle.lie_field.specs.Quotient.{order, mul, inv, of_int, power_int}
 use Rattle.lie_field.specs.Units.{IsUnit}
 use Rattle.lie_field.proofs.UnitLemmas.{power_laws}
-use Rattle.lie_datum.specs.Vectors.{Vector, times, unit}
+use Rattle.lie_datum.specs.Vectors.{Vector, times, unit, combination, entry as coordinate}
 use Rattle.lie_datum.specs.Numbers.{number_at}
 use Rattle.lie_datum.specs.RootDatum.{vector}
 use Rattle.lie_datum.specs.RootList.{RootDatum, root_of, IsNumber}
@@ -23,6 +23,7 @@ use Rattle.lie_const.specs.Modules.{Module, dimension, divided_power}
 use Rattle.lie_letters.specs.Entries.{AreUnits, character}
 use Rattle.lie_letters.proofs.CharacterLemmas.{IsUnit-character, combination-times}
 use Rattle.lie_identities.specs.Audit.{IsGraded}
+use Rattle.lie_identities.specs.CoverLines.{IsCombination}
 use Rattle.lie_identities.specs.Covers.{less_axis}
 use Rattle.lie_audit.specs.WordMatrix.{torus_element}
 use Rattle.lie_audit.specs.WeylWeights.{weight_at}
@@ -30,10 +31,10 @@ use Rattle.lie_audit.proofs.CharacterValues.{character-plus}
 use Rattle.lie_audit.proofs.GradedWeights.{raised}
 use Rattle.lie_reduce.specs.TorusReading.{IsValueAt, IsRootValue, AreRootValues, IsQuotientAt, IsTorusOf}
 use Rattle.lie_reduce.specs.Triangular.{IsInvertibleDiagonal}
-use Rattle.lie_reduce.proofs.TorusValues.{unit-mul, unit-inv, divided, undone, moved_over, character-multiple, character-zero, character-unit, character-less}
+use Rattle.lie_reduce.proofs.TorusValues.{unit-mul, unit-inv, divided, undone, moved_over, character-multiple, character-zero, character-unit, character-less, character-empty, character-more, character-entries}
 use Rattle.lie_reduce.proofs.WeylSends.{torus-diagonal}
 
-module _ (f : FiniteField) (d : RootDatum) (v : Module) (D : Matrix ℕ) where
+module _ (f : FiniteField) (v : Module) (D : Matrix ℕ) where
   -- the value of the weight at a place is the entry there
   weight_is : (t : List ℕ) → D ≡ torus_element f v t → (a : ℕ) → a < dimension v → character f t (weight_at v a) ≡ entry 0 D a a
   weight_is t is a low = sym (ap (λ M. entry 0 M a a) is ∙ torus-diagonal f v t a low)
@@ -48,22 +49,47 @@ module _ (f : FiniteField) (d : RootDatum) (v : Module) (D : Matrix ℕ) where
         ltb-true (entry 0 D a a) (order f.given) (h.square.elem a a (omega (arith, low, tall)) (omega (arith, low, wide))),
       )
 
+  -- ---- combinations of weights
+  -- one weight more in a product of powers of weights
+  pub line-start : (c : Vector) → IsUnit f 1 → IsValueAt f v D (combination (take 0 c) v.weights) 1
+  line-start c one = record { unit = one; value = λ t few units is. character-empty f t }
+
+  pub line-step : IsInvertibleDiagonal (field_ring f) (dimension v) D → (c : Vector) (a b : ℕ) → length c ≡ dimension v → a < dimension v
+      → IsValueAt f v D (combination (take a c) v.weights) b → IsValueAt f v D (combination (take (suc a) c) v.weights) (mul f.given b (power_int f.given (entry 0 D a a) (coordinate c a)))
+  line-step h c a b count low before =
+      let e = diagonal-unit h a low in
+      let k = coordinate c a in
+      record {
+        unit = unit-mul f b (power_int f.given (entry 0 D a a) k) before.unit ((power_laws f).unit (entry 0 D a a) e k);
+        value = λ t few units is. (
+            character-more f t c v.weights a units (omega (arith, low, count)) low
+            ∙ ap₂ (mul f.given) (before.value t few units is) (ap (λ z. power_int f.given z k) (weight_is t is a low)));
+      }
+
+  -- a cover line of an axis tells the value there
+  pub line-value : (j b : ℕ) (c : List ℤ) → IsCombination v j c → IsValueAt f v D (combination c v.weights) b → IsValueAt f v D (unit 8 j) b
+  line-value j b c line h = record {
+    unit = h.unit;
+    value = λ t few units is. sym (character-entries f t (combination c v.weights) (unit 8 j) few line.sum units) ∙ h.value t few units is;
+  }
+
+module _ (f : FiniteField) (d : RootDatum) (v : Module) (D : Matrix ℕ) where
   -- ---- roots
   -- two places whose weights stand apart by a root tell its value
   pub root-value : IsInvertibleDiagonal (field_ring f) (dimension v) D → IsGraded d v → (r : ℤ) → IsNumber d r → (a b : ℕ) → a < dimension v → b < dimension v
       → of_int f.given (entry (pos 0) (divided_power v r 1) a b) ≢ 0 → IsRootValue f d v D r (mul f.given (entry 0 D a a) (inv f.given (entry 0 D b b)))
   root-value h graded r number a b p q some =
-      let top = diagonal-unit h a p in
-      let low = diagonal-unit h b q in
+      let top = diagonal-unit f v D h a p in
+      let low = diagonal-unit f v D h b q in
       let nonzero : entry (pos 0) (divided_power v r 1) a b ≢ pos 0 = λ none. some (ap (of_int f.given) none ∙ int_zero (field_ring f) (field_is_ring f)) in
       let apart = raised d v graded r number 1 a b (omega arith) p q nonzero in
       record {
         unit = unit-mul f (entry 0 D a a) (inv f.given (entry 0 D b b)) top (unit-inv f (entry 0 D b b) low);
-        value = λ t units is. (
+        value = λ t few units is. (
             let R = vector d.base (root_of d r) in
             let one : character f t (times (pos 1) R) ≡ character f t R = character-multiple f t R (pos 1) units ∙ (power_laws f).at_one (character f t R) (IsUnit-character f t R units) in
             let whole : entry 0 D a a ≡ mul f.given (entry 0 D b b) (character f t R) =
-            sym (weight_is t is a p) ∙ ap (character f t) apart ∙ character-plus f t (weight_at v b) (times (pos 1) R) units ∙ ap₂ (mul f.given) (weight_is t is b q) one in
+            sym (weight_is f v D t is a p) ∙ ap (character f t) apart ∙ character-plus f t (weight_at v b) (times (pos 1) R) units ∙ ap₂ (mul f.given) (weight_is f v D t is b q) one in
             sym (divided f (entry 0 D a a) (entry 0 D b b) (character f t R) low (IsUnit-character f t R units).1 whole));
       }
 
@@ -71,13 +97,13 @@ module _ (f : FiniteField) (d : RootDatum) (v : Module) (D : Matrix ℕ) where
   pub opposite-value : (r : ℤ) (a : ℕ) → IsNumber d r → IsRootValue f d v D r a → IsRootValue f d v D (neg_ℤ r) (inv f.given a)
   opposite-value r a number h = record {
     unit = unit-inv f a h.unit;
-    value = λ t units is. (
+    value = λ t few units is. (
         let R = vector d.base (root_of d r) in
         ap (λ s. character f t (vector d.base s)) (opposite_number d r number).1
         ∙ ap (character f t) (combination-times (neg_ℤ (pos 1)) (root_of d r).coeffs d.base.roots)
         ∙ character-multiple f t R (neg_ℤ (pos 1)) units
         ∙ (power_laws f).at_negative (character f t R) (IsUnit-character f t R units) (pos 1)
-        ∙ ap (inv f.given) ((power_laws f).at_one (character f t R) (IsUnit-character f t R units) ∙ h.value t units is));
+        ∙ ap (inv f.given) ((power_laws f).at_one (character f t R) (IsUnit-character f t R units) ∙ h.value t few units is));
   }
 
   -- one value more
@@ -100,18 +126,18 @@ module _ (f : FiniteField) (d : RootDatum) (v : Module) (D : Matrix ℕ) where
 
   -- ---- lowering
   pub quotient-start : (x : Vector) → IsUnit f 1 → ((a : ℕ) → a < order f.given → mul f.given 1 a ≡ a) → IsQuotientAt f v D x x 1
-  quotient-start x unit one = record { unit = unit; value = λ t units is. sym (one (character f t x) (IsUnit-character f t x units).1) }
+  quotient-start x unit one = record { unit = unit; value = λ t few units is. sym (one (character f t x) (IsUnit-character f t x units).1) }
 
   -- a root taken away from what is left
   pub quotient-step : (x y : Vector) (a : ℕ) (r c : ℤ) (b : ℕ) → IsQuotientAt f v D x y a → IsRootValue f d v D r b
       → IsQuotientAt f v D x (less_root d y c r) (mul f.given a (power_int f.given b c))
   quotient-step x y a r c b h root = record {
     unit = unit-mul f a (power_int f.given b c) h.unit ((power_laws f).unit b root.unit c);
-    value = λ t units is. (
+    value = λ t few units is. (
         let R = vector d.base (root_of d r) in
-        h.value t units is
+        h.value t few units is
         ∙ sym (ap (mul f.given (mul f.given a (power_int f.given b c)))
-        (character-less f t y R c units ∙ ap (λ z. mul f.given (character f t y) (inv f.given (power_int f.given z c))) (root.value t units is))
+        (character-less f t y R c units ∙ ap (λ z. mul f.given (character f t y) (inv f.given (power_int f.given z c))) (root.value t few units is))
         ∙ moved_over f a (power_int f.given b c) (character f t y) ((power_laws f).unit b root.unit c) (IsUnit-character f t y units).1));
   }
 
@@ -119,7 +145,7 @@ module _ (f : FiniteField) (d : RootDatum) (v : Module) (D : Matrix ℕ) where
   pub quotient-end : (x y : Vector) (a : ℕ) → IsZero y → ((a : ℕ) → a < order f.given → mul f.given a 1 ≡ a) → IsQuotientAt f v D x y a → IsValueAt f v D x a
   quotient-end x y a none one h = record {
     unit = h.unit;
-    value = λ t units is. h.value t units is ∙ ap (mul f.given a) (character-zero f t y none) ∙ one a h.unit.1;
+    value = λ t few units is. h.value t few units is ∙ ap (mul f.given a) (character-zero f t y none) ∙ one a h.unit.1;
   }
 
   -- ---- axes
@@ -128,17 +154,17 @@ module _ (f : FiniteField) (d : RootDatum) (v : Module) (D : Matrix ℕ) where
       → IsValueAt f v D (unit 8 j) (mul f.given (power_int f.given (entry 0 D a a) (pos c)) (inv f.given rest))
   axis-value h c a j rest low value =
       let whole = power_int f.given (entry 0 D a a) (pos c) in
-      let e = diagonal-unit h a low in
+      let e = diagonal-unit f v D h a low in
       let big : IsUnit f whole = (power_laws f).unit (entry 0 D a a) e (pos c) in
       record {
         unit = unit-mul f whole (inv f.given rest) big (unit-inv f rest value.unit);
-        value = λ t units is. (
+        value = λ t few units is. (
             let E = unit 8 j in
             let at = character f t E in
             let at_unit = IsUnit-character f t E units in
-            let first : character f t (times (pos c) (weight_at v a)) ≡ whole = character-multiple f t (weight_at v a) (pos c) units ∙ ap (λ z. power_int f.given z (pos c)) (weight_is t is a low) in
+            let first : character f t (times (pos c) (weight_at v a)) ≡ whole = character-multiple f t (weight_at v a) (pos c) units ∙ ap (λ z. power_int f.given z (pos c)) (weight_is f v D t is a low) in
             let left : rest ≡ mul f.given whole (inv f.given at) =
-            sym (value.value t units is) ∙ character-less f t (times (pos c) (weight_at v a)) E (pos 1) units
+            sym (value.value t few units is) ∙ character-less f t (times (pos c) (weight_at v a)) E (pos 1) units
             ∙ ap₂ (λ y z. mul f.given y (inv f.given z)) first ((power_laws f).at_one at at_unit) in
             let product : whole ≡ mul f.given rest at = sym (ap (λ z. mul f.given z at) left ∙ back whole at at_unit big.1) in
             sym (divided f whole rest at value.unit at_unit.1 product));
@@ -154,7 +180,7 @@ module _ (f : FiniteField) (d : RootDatum) (v : Module) (D : Matrix ℕ) where
     units = units;
     only = λ s wide good is. ext_get_or 0 ts s (sym long ∙ wide) (λ j l.
         (let low : j < d.base.dim = omega (arith, l, long) in
-        sym ((each j low).value s good is) ∙ character-unit f s 8 j good (omega (arith, low, wide)) (omega (arith, low, few))));
+        sym ((each j low).value s (omega (arith, wide, few)) good is) ∙ character-unit f s 8 j good (omega (arith, low, wide)) (omega (arith, low, few))));
   }
 
   -- a list with a value at each axis has units

@@ -1,19 +1,21 @@
--- The values of weights at a torus vector: at multiples, at zeros and at the axes, and what two of them make.
-use Rattle.std.proofs.Common.{◌≡◌, ℕ, zero, suc, ◌<◌, List, [], ◌∷◌, length, get_or, refl, sym, ap, ap₂, ◌∙◌, arith}
+-- The values of weights at a torus vector: at multiples, at zeros, at the axes and at combinations, and what two of them make.
+use Rattle.std.proofs.Common.{◌≡◌, ℕ, zero, suc, ◌<◌, ◌≤◌, List, [], ◌∷◌, length, get_or, take, refl, sym, ap, ap₂, ◌∙◌, arith}
 use Rattle.std.specs.Prelude.{ℤ, neg_ℤ}
 use Rattle.lie_field.specs.FiniteField.{FiniteField}
 use Rattle.lie_field.specs.Quotient.{order, mul, inv, power_int}
 use Rattle.lie_field.specs.Units.{IsUnit}
-use Rattle.lie_field.specs.Elements.{unit_at, mul_apart, inv_apart}
+use Rattle.lie_field.specs.Elements.{NonZero, unit_at, mul_apart, inv_apart}
 use Rattle.lie_field.specs.Algebra.FieldTest.{is_lawful}
 use Rattle.lie_field.specs.Algebra.Laws
 use Rattle.lie_field.specs.Algebra.Powers
 use Rattle.lie_field.proofs.UnitLemmas.{power_laws}
 use Rattle.lie_ring.specs.IntegerLaws.{integers_commutative}
-use Rattle.lie_datum.specs.Vectors.{Vector, plus, times, unit}
+use Rattle.lie_datum.specs.Vectors.{Vector, plus, times, unit, combination, entry}
 use Rattle.lie_orbit.specs.Laws.{IsZero}
 use Rattle.lie_letters.specs.Entries.{AreUnits, character}
-use Rattle.lie_letters.proofs.CharacterLemmas.{IsUnit-character, one_times, times_one}
+use Rattle.lie_letters.proofs.CharacterLemmas.{IsUnit-character, monomial-number, one_times, times_one}
+use Rattle.lie_letters.proofs.TorusLemmas.{units_of, length-numbers}
+use Rattle.lie_reduce.proofs.TorusWeights.{monomial-entries}
 use Rattle.lie_audit.proofs.CharacterValues.{one-one, character-plus}
 
 module _ (f : FiniteField) where
@@ -88,3 +90,30 @@ module _ (f : FiniteField) where
   character-less t x r k h =
       character-plus f t x (times (neg_ℤ k) r) h
       ∙ ap (mul f.given (character f t x)) (character-multiple t r (neg_ℤ k) h ∙ (power_laws f).at_negative (character f t r) (IsUnit-character f t r h) k)
+
+  -- at vectors with the same entries
+  pub character-entries : (t : List ℕ) (x y : Vector) → length t ≤ 8 → ((i : ℕ) → i < 8 → entry x i ≡ entry y i) → AreUnits f t → character f t x ≡ character f t y
+  character-entries t x y few same h =
+      let ts = units_of f t h in
+      let as_many : length ts.0 ≡ length t = sym (length-numbers f ts.0) ∙ ap length ts.1 in
+      ap (λ z. character f z x) (sym ts.1) ∙ sym (monomial-number f ts.0 x) ∙ ap (λ (z : NonZero f). z.element.number) (monomial-entries f ts.0 x y (λ i l. same i (omega (arith, l, few, as_many))))
+      ∙ monomial-number f ts.0 y ∙ ap (λ z. character f z y) ts.1
+
+  pub character-empty : (t : List ℕ) → character f t [] ≡ 1
+  character-empty [] = refl
+  character-empty (a ∷ t) = refl
+
+  -- at a combination of vectors, one coefficient more
+  pub character-more : (t : List ℕ) (c : Vector) (vs : List Vector) (a : ℕ) → AreUnits f t → a < length c → a < length vs
+      → character f t (combination (take (suc a) c) vs) ≡ mul f.given (character f t (combination (take a c) vs)) (power_int f.given (character f t (get_or vs a [])) (entry c a))
+  character-more t [] vs a h p q = absurd (let never : ⊥ = omega (arith, p) in never)
+  character-more t (b ∷ c) [] a h p q = absurd (let never : ⊥ = omega (arith, q) in never)
+  character-more t (b ∷ c) (v ∷ vs) zero h p q =
+      character-plus f t (times b v) [] h
+      ∙ ap₂ (mul f.given) (character-multiple t v b h) refl
+      ∙ comm (power_int f.given (character f t v) b) (character f t [])
+  character-more t (b ∷ c) (v ∷ vs) (suc a) h p q =
+      character-plus f t (times b v) (combination (take (suc a) c) vs) h
+      ∙ ap (mul f.given (character f t (times b v))) (character-more t c vs a h (omega (arith, p)) (omega (arith, q)))
+      ∙ sym (assoc (character f t (times b v)) (character f t (combination (take a c) vs)) (power_int f.given (character f t (get_or vs a [])) (entry c a)))
+      ∙ ap (λ z. mul f.given z (power_int f.given (character f t (get_or vs a [])) (entry c a))) (sym (character-plus f t (times b v) (combination (take a c) vs) h))

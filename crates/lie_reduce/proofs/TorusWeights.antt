@@ -1,5 +1,5 @@
--- A torus vector is determined by the values of the weights, where the roots' values are, and each axis is covered by lowering.
-use Rattle.std.proofs.Common.{◌≡◌, ℕ, zero, suc, ◌<◌, ◌≤◌, List, [], ◌∷◌, length, refl, sym, ap, ap₂, ◌∙◌, subst, arith}
+-- A torus vector is determined by the values of the weights, where the roots' values are, and each axis is covered by lowering or by a line.
+use Rattle.std.proofs.Common.{◌≡◌, ℕ, zero, suc, ◌<◌, ◌≤◌, List, [], ◌∷◌, length, refl, sym, ap, ap₂, ◌∙◌, subst, arith, ⊎_elim}
 use Rattle.std.specs.Prelude.{ℤ, pos, negsuc, neg_ℤ, ◌+ℤ◌, ◌*ℤ◌, slice_index_or}
 use Rattle.std.proofs.lemmas.Int.{ints}
 use Rattle.std.proofs.lemmas.List.{ext_get_or}
@@ -9,7 +9,7 @@ use Rattle.lie_ring.specs.IntegerLaws.{integers_ring}
 use Rattle.lie_field.specs.FiniteField.{FiniteField}
 use Rattle.lie_field.specs.Quotient.{mul}
 use Rattle.lie_field.specs.Elements.{Elem, NonZero, same_nonzero, unit_one, unit_mul, unit_inv, unit_power, unit_power_int, unit_assoc, unit_comm, unit_mul_one, unit_mul_inv, unit_mul-element, elem_mul-number}
-use Rattle.lie_datum.specs.Vectors.{Vector, plus, times, minus, combination, unit}
+use Rattle.lie_datum.specs.Vectors.{Vector, plus, times, minus, combination, unit, entry}
 use Rattle.lie_datum.specs.declared.root_pair.Root.{Root}
 use Rattle.lie_datum.specs.RootDatum.{Base, vector, opposite}
 use Rattle.lie_datum.specs.RootList.{RootDatum, root_of, IsNumber}
@@ -22,7 +22,8 @@ use Rattle.lie_letters.specs.Spelled.{numbers}
 use Rattle.lie_letters.proofs.TorusLemmas.{AreUnits-numbers}
 use Rattle.lie_letters.proofs.CharacterLemmas.{monomial-number}
 use Rattle.lie_audit.proofs.CharacterValues.{character-plus}
-use Rattle.lie_identities.specs.Covers.{IsCovered}
+use Rattle.lie_identities.specs.CoverLines.{CoverLines, AreCoverLines}
+use Rattle.lie_identities.specs.Covers.{IsCovered, IsAxisCovered}
 
 -- (k + l) x = k x + l x
 times-split : (k l : ℤ) (x : Vector) → times (k +ℤ l) x ≡ plus (times k x) (times l x)
@@ -89,12 +90,17 @@ module _ (f : FiniteField) where
   monomial-zeros (t ∷ ts) zero = refl
   monomial-zeros (t ∷ ts) (suc n) = ap₂ (unit_mul f) (power_none t) (monomial-zeros ts n) ∙ unit_mul_one f (unit_one f)
 
+  -- the value of a vector with zeros in the places of the torus vector
+  monomial-zeros-there : (t : List (NonZero f)) (y : Vector) → ((i : ℕ) → i < length t → entry y i ≡ pos 0) → monomial f t y ≡ unit_one f
+  unfolding monomial
+  monomial-zeros-there [] y h = refl
+  monomial-zeros-there (t ∷ ts) [] h = refl
+  monomial-zeros-there (t ∷ ts) (c ∷ y) h =
+      ap₂ (unit_mul f) (ap (unit_power_int f t) (h 0 (omega arith)) ∙ power_none t) (monomial-zeros-there ts y (λ k l. h (suc k) (omega (arith, l)))) ∙ unit_mul_one f (unit_one f)
+
   -- the value of a vector of zeros, of any length
   monomial-zero : (t : List (NonZero f)) (y : Vector) → IsZero y → monomial f t y ≡ unit_one f
-  unfolding monomial
-  monomial-zero [] y h = refl
-  monomial-zero (t ∷ ts) [] h = refl
-  monomial-zero (t ∷ ts) (c ∷ y) h = ap₂ (unit_mul f) (ap (unit_power_int f t) (h 0) ∙ power_none t) (monomial-zero ts y (λ k. h (suc k))) ∙ unit_mul_one f (unit_one f)
+  monomial-zero t y h = monomial-zeros-there t y (λ i l. h i)
 
   -- the value of a unit vector is the entry
   monomial-unit : (t : List (NonZero f)) (n i : ℕ) (z : NonZero f) → i < length t → i < n → monomial f t (unit n (suc i)) ≡ slice_index_or t i z
@@ -103,6 +109,16 @@ module _ (f : FiniteField) where
   monomial-unit (t ∷ ts) zero i z p q = absurd (let never : ⊥ = omega (arith, q) in never)
   monomial-unit (t ∷ ts) (suc n) zero z p q = ap₂ (unit_mul f) (power_single t) (monomial-zeros ts n) ∙ unit_mul_one f t
   monomial-unit (t ∷ ts) (suc n) (suc i) z p q = ap₂ (unit_mul f) (power_none t) (monomial-unit ts n i z (omega (arith, p)) (omega (arith, q))) ∙ one_times (slice_index_or ts i z)
+
+  -- the value rests on as many entries as there are of the torus vector
+  pub monomial-entries : (t : List (NonZero f)) (x y : Vector) → ((i : ℕ) → i < length t → entry x i ≡ entry y i) → monomial f t x ≡ monomial f t y
+  unfolding monomial
+  monomial-entries [] x y same = refl
+  monomial-entries (t ∷ ts) [] [] same = refl
+  monomial-entries (t ∷ ts) [] (b ∷ y) same = sym (monomial-zeros-there (t ∷ ts) (b ∷ y) (λ i l. sym (same i l)))
+  monomial-entries (t ∷ ts) (a ∷ x) [] same = monomial-zeros-there (t ∷ ts) (a ∷ x) same
+  monomial-entries (t ∷ ts) (a ∷ x) (b ∷ y) same =
+      ap₂ (unit_mul f) (ap (unit_power_int f t) (same 0 (omega arith))) (monomial-entries ts x y (λ i l. same (suc i) (omega (arith, l))))
 
   -- products cancel
   cancel_right : (a b c : NonZero f) → unit_mul f a c ≡ unit_mul f b c → a ≡ b
@@ -135,6 +151,10 @@ module _ (f : FiniteField) where
     unfolding Agrees
     agrees-none x = monomial-none h x ∙ sym (monomial-none k x)
 
+    agrees-empty : Agrees []
+    unfolding Agrees
+    agrees-empty = monomial-zero h [] (λ i. refl) ∙ sym (monomial-zero k [] (λ i. refl))
+
     -- at multiples
     agrees-natural : (n : ℕ) (x : Vector) → Agrees x → Agrees (times (pos n) x)
     agrees-natural zero x p = agrees-none x
@@ -163,6 +183,19 @@ module _ (f : FiniteField) where
     unfolding Agrees
     agrees-numbers x e = same_nonzero f (monomial f h x) (monomial f k x) (monomial-number f h x ∙ e ∙ sym (monomial-number f k x))
 
+    -- at vectors with the same entries
+    agrees-entries : (x y : Vector) → length h ≤ 8 → length k ≤ 8 → ((i : ℕ) → i < 8 → entry x i ≡ entry y i) → Agrees x → Agrees y
+    unfolding Agrees
+    agrees-entries x y h_few k_few same p =
+        sym (monomial-entries h x y (λ i l. same i (omega (arith, l, h_few)))) ∙ p ∙ monomial-entries k x y (λ i l. same i (omega (arith, l, k_few)))
+
+    -- at a combination of vectors
+    agrees-combination : (c : Vector) (vs : List Vector) → ((a : ℕ) → a < length vs → Agrees (slice_index_or vs a [])) → Agrees (combination c vs)
+    agrees-combination [] vs at = agrees-empty
+    agrees-combination (a ∷ c) [] at = agrees-empty
+    agrees-combination (a ∷ c) (v ∷ vs) at =
+        agrees-plus (times a v) (combination c vs) (agrees-times a v (at 0 (omega arith))) (agrees-combination c vs (λ i l. at (suc i) (omega (arith, l))))
+
     -- at a difference
     pub agrees-difference : (x y z : Vector) → x ≡ plus y (times (pos 1) z) → Agrees x → Agrees y → Agrees z
     agrees-difference x y z e p q = subst Agrees (times-one z) (agrees-second y (times (pos 1) z) (subst Agrees e p) q)
@@ -187,13 +220,22 @@ module _ (f : FiniteField) where
           agrees-first z (times (neg_ℤ c) (vector d.base (root_of d r))) (agrees-lowered (less_root d z c r) u rest p)
           (agrees-times (neg_ℤ c) (vector d.base (root_of d r)) (at_roots r first.number))
 
-      -- at the axis
-      pub agrees-axis : (v : Module) → ((a : ℕ) → a < dimension v → Agrees (slice_index_or v.weights a [])) → (j : ℕ) → IsCovered d v j → Agrees (unit 8 j)
+      -- at an axis that a weight covers
+      agrees-covered : (v : Module) → ((a : ℕ) → a < dimension v → Agrees (slice_index_or v.weights a [])) → (j : ℕ) → IsCovered d v j → Agrees (unit 8 j)
       unfolding Agrees
-      agrees-axis v at_weights j axis =
+      agrees-covered v at_weights j axis =
           let w = slice_index_or v.weights axis.place [] in
           let x = times (pos axis.times) w in
           agrees-back (unit 8 j)
           (agrees-second x (minus (unit 8 j))
           (agrees-lowered (plus x (minus (unit 8 j))) axis.lowered axis.lowers (monomial-zero h axis.lowered axis.zero ∙ sym (monomial-zero k axis.lowered axis.zero)))
           (agrees-times (pos axis.times) w (at_weights axis.place axis.within)))
+
+      -- at an axis that is covered
+      pub agrees-axis : (v : Module) → ((a : ℕ) → a < dimension v → Agrees (slice_index_or v.weights a [])) → length h ≤ 8 → length k ≤ 8
+          → (lines : CoverLines) → AreCoverLines d v lines → (j : ℕ) → 1 ≤ j → j ≤ d.base.dim → IsAxisCovered d v lines j → Agrees (unit 8 j)
+      agrees-axis v at_weights h_few k_few lines cover j first last axis = ⊎_elim (agrees-covered v at_weights j)
+          (λ line. (let c = line.0 in
+          let is = cover.each j c first last line.1 in
+          agrees-entries (combination c v.weights) (unit 8 j) h_few k_few is.sum (agrees-combination c v.weights at_weights)))
+          axis

@@ -207,7 +207,7 @@ module _ (f : SignedFrame) (v : Module) (ground : IsCoveringFor f v) (equal : Eq
       let at_weights = λ (a : ℕ) (l : a < n). agrees h.0 k.0 (weight_at v a)
       (ap (λ z. character F z (weight_at v a)) h.1 ∙ same a l ∙ ap (λ z. character F z (weight_at v a)) (sym k.1)) in
       sym h.1 ∙ ap (numbers F) (torus_same F h.0 k.0 (h_long ∙ sym k_long) (omega (arith, h_long, few)) (λ i l.
-      agrees-axis F h.0 k.0 d (at_root h.0 k.0 at_weights) v at_weights (suc i) (ground.covering.axes (suc i) (omega arith) (omega (arith, l, h_long))))) ∙ k.1
+      agrees-axis F h.0 k.0 d (at_root h.0 k.0 at_weights) v at_weights (omega (arith, h_long, few)) (omega (arith, k_long, few)) ground.lines ground.cover (suc i) (omega arith) (omega (arith, l, h_long)) (ground.covering.axes (suc i) (omega arith) (omega (arith, l, h_long))))) ∙ k.1
     where
       agrees : (h k : List (NonZero f.field)) (x : Vector) → character f.field (numbers f.field h) x ≡ character f.field (numbers f.field k) x → Agrees f.field h k x
       agrees h k x e = agrees-numbers f.field h k x e

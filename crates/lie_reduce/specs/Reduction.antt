@@ -25,7 +25,7 @@ pub record CoversFrame (f : SignedFrame) (a : AuditedModule) : Type 0 where
   pub datum : a.datum ≡ f.datum
   pub constants : a.constants ≡ f.constants
   pub signs : a.signs ≡ f.signs
-  pub covering : IsCovering f.field f.datum a.module
+  pub covering : IsCovering f.field f.datum a.module a.lines
 
 -- an element for each positive root, whose root elements in order have the product M
 pub record HasListMatrix (f : SignedFrame) (v : Module) (u : List ℕ) (M : Matrix ℕ) : Type 0 where

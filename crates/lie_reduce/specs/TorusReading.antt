@@ -1,14 +1,14 @@
 -- How a torus vector is read off a diagonal matrix: the values of the roots, and that of what lowers to 0.
 -- For proofs: no public clause cites it.
 -- Source: Carter, Simple Groups of Lie Type, 7.1 (characters of the diagonal subgroup).
--- Own: each axis of X is a combination of a weight and of roots, by the cover.
+-- Own: each axis of X is a combination of a weight and of roots, or of weights, by the cover.
 --
 --   D is the matrix of h(t)                          D ≡ torus_element f v t
---   then x(t) = a                                    IsValueAt f v D x a
+--   then x(t) = a                                    IsValueAt f v D x a    t has at most 8 entries
 --   a value for each of the first roots              AreRootValues f d v D k values
 --   x(t) = a y(t)                                    IsQuotientAt f v D x y a
 --   D is the matrix of h(t) for no t but this one    IsTorusOf f d v D t
-use Rattle.std.specs.Prelude.{◌≡◌, ℕ, ◌<◌, ℤ, List, length, slice_index_or}
+use Rattle.std.specs.Prelude.{◌≡◌, ℕ, ◌<◌, ◌≤◌, ℤ, List, length, slice_index_or}
 use Rattle.lie_ring.specs.Matrices.{Matrix}
 use Rattle.lie_field.specs.FiniteField.{FiniteField}
 use Rattle.lie_field.specs.Quotient.{mul}
@@ -23,7 +23,7 @@ use Rattle.lie_audit.specs.WordMatrix.{torus_element}
 -- a is a unit, and the value at t of the vector x, wherever D is the matrix of h(t)
 pub record IsValueAt (f : FiniteField) (v : Module) (D : Matrix ℕ) (x : Vector) (a : ℕ) : Type 0 where
   pub unit : IsUnit f a
-  pub value : (t : List ℕ) → AreUnits f t → D ≡ torus_element f v t → character f t x ≡ a
+  pub value : (t : List ℕ) → length t ≤ 8 → AreUnits f t → D ≡ torus_element f v t → character f t x ≡ a
 
 -- a is the value of the root r
 abbrev pub IsRootValue : FiniteField → RootDatum → Module → Matrix ℕ → ℤ → ℕ → Type 0
@@ -37,7 +37,7 @@ pub record AreRootValues (f : FiniteField) (d : RootDatum) (v : Module) (D : Mat
 -- a is a unit, and the value of x is a times that of y
 pub record IsQuotientAt (f : FiniteField) (v : Module) (D : Matrix ℕ) (x y : Vector) (a : ℕ) : Type 0 where
   pub unit : IsUnit f a
-  pub value : (t : List ℕ) → AreUnits f t → D ≡ torus_element f v t → character f t x ≡ mul f.given a (character f t y)
+  pub value : (t : List ℕ) → length t ≤ 8 → AreUnits f t → D ≡ torus_element f v t → character f t x ≡ mul f.given a (character f t y)
 
 -- t is a torus vector, and D is the matrix of h(s) for no other s
 pub record IsTorusOf (f : FiniteField) (d : RootDatum) (v : Module) (D : Matrix ℕ) (t : List ℕ) : Type 0 where

@@ -13,14 +13,17 @@ use Rattle.lie_letters.specs.SignedFrames.{SignedFrame, IsLawfulSigned}
 use Rattle.lie_letters.specs.GroupSpelled.{JoinedInGroup}
 use Rattle.lie_unip.specs.Forms.{FormData, IsForm, IsFormOf, IsShortest, form_word}
 use Rattle.lie_identities.specs.Audit.{MeetsIdentities}
+use Rattle.lie_identities.specs.CoverLines.{CoverLines, AreCoverLines}
 use Rattle.lie_identities.specs.Covers.{IsCovering}
 use Rattle.lie_audit.specs.WordMatrix.{word_matrix}
 
--- the frame is lawful; v is audited for its datum, constants and signs, and covers over its field
+-- the frame is lawful; v is audited for its datum, constants and signs, and covers over its field, with some cover lines
 pub record IsCoveringFor (f : SignedFrame) (v : Module) : Type 0 where
   pub lawful : IsLawfulSigned f
   pub audited : MeetsIdentities f.datum f.constants (eta_of f.signs) v
-  pub covering : IsCovering f.field f.datum v
+  pub lines : CoverLines
+  pub cover : AreCoverLines f.datum v lines
+  pub covering : IsCovering f.field f.datum v lines
 
 -- forms whose words have equal matrices are equal, whichever shortest words of their Weyl elements the words go along
 abbrev pub FormsAreUnique : Type 0

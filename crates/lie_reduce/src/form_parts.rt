@@ -173,11 +173,11 @@ pub(crate) fn word_of_parts(
         (IsWordOfParts frame.now audited.now.module turn.now u.now d.now v.now)) }
 {
     frame.lawful();
-    let space = audited.module();
+    audited.module();
     match positive_word(alloc, frame, audited, u)? {
         Some(first) => match positive_word(alloc, frame, audited, v)? {
             Some(second) => {
-                let h = torus_of(alloc, &frame.field, &frame.datum, space, d)?;
+                let h = torus_of(alloc, &frame.field, &frame.datum, audited, d)?;
                 Ok(Some(joined_word(alloc, &first, h, turn, &second)?))
             }
             None => Ok(None),

@@ -8,13 +8,13 @@ ghost use Rattle.lie_field.specs.Units.{IsUnit};
 ghost use Rattle.lie_datum.specs.RootDatum.{IsWithin};
 ghost use Rattle.lie_datum.specs.RootList.{IsNumber};
 ghost use Rattle.lie_datum.specs.Numbers.{place};
-ghost use Rattle.lie_datum.specs.Vectors.{unit};
+ghost use Rattle.lie_datum.specs.Vectors.{combination, unit};
 ghost use Rattle.lie_orbit.specs.Lowering.{IsHalf, IsHighRoot};
 ghost use Rattle.lie_orbit.specs.Weights.{coroot_pairing};
 ghost use Rattle.lie_const.specs.Modules.{IsModule, dimension};
 ghost use Rattle.lie_identities.specs.Audit.{HasLightWeights, IsGraded};
 ghost use Rattle.lie_identities.specs.CoverParts.{IsCoveredTimes, LowersToZero};
-ghost use Rattle.lie_identities.specs.Covers.{IsCovered, IsCovering, IsLiveAt, less_axis};
+ghost use Rattle.lie_identities.specs.Covers.{IsAxisCovered, IsCovered, IsCovering, IsLive, IsLiveAt, less_axis};
 ghost use Rattle.lie_reduce.specs.TorusReading.{IsRootValue, AreRootValues, IsValueAt, IsTorusOf};
 ghost use Rattle.lie_reduce.specs.Triangular.{IsInvertibleDiagonal};
 
@@ -22,7 +22,7 @@ use crate::coefficients::nonzero_place;
 use lie_datum::{Datum, RootId, Vector, pairing};
 use lie_dense::Dense;
 use lie_field::{Fe, Field};
-use lie_identities::less_axis;
+use lie_identities::{Audited, less_axis};
 use lie_letters::Torus;
 use lie_orbit::{first_high, lower, lowered_by};
 use lie_weight::Module;
@@ -66,7 +66,7 @@ fn root_values(
 ) -> Result<Vec<Fe>, AllocError>
     requires space { IsModule datum.now space.now }
     requires graded { IsGraded datum.now space.now }
-    requires covering { IsCovering field.now datum.now space.now }
+    requires live { IsLive field.now datum.now space.now }
     requires diagonal { IsInvertibleDiagonal (field_ring field.now) (dimension space.now) d.now }
     ensures { IfOk result (λ values. AreRootValues field.now datum.now space.now d.now (2 * length datum.now.positive) values.items) }
 {
@@ -175,7 +175,7 @@ fn cover(datum: &Datum, space: &Module, axis: usize) -> Option<(u8, usize)>
     None
 }
 
-/// The entry of the torus vector at an axis, which counts from 1.
+/// The entry of the torus vector at an axis, which counts from 1, where a weight covers the axis.
 fn axis_value(
     field: &Field,
     datum: &Datum,
@@ -203,19 +203,58 @@ fn axis_value(
     }
 }
 
-/// The entries of the torus vector at all axes.
-fn axis_values(field: &Field, datum: &Datum, space: &Module, d: &Dense, values: &[Fe]) -> [Fe; 8]
-    requires light { HasLightWeights space.now }
-    requires covering { IsCovering field.now datum.now space.now }
+/// The value of a combination of the weights: the product of powers of the entries of the matrix.
+fn line_value(field: &Field, space: &Module, d: &Dense, c: &[i64]) -> Fe
+    requires count { length c.now ≡ dimension space.now }
+    requires small { IsWithin 1000000 c.now }
     requires diagonal { IsInvertibleDiagonal (field_ring field.now) (dimension space.now) d.now }
-    requires values { AreRootValues field.now datum.now space.now d.now (2 * length datum.now.positive) values.now }
+    ensures { IsValueAt field.now space.now d.now (combination c.now space.now.weights) result }
+{
+    let _ = d.dim();
+    let mut value = one_of(field);
+    for a in 0..space.dim() {
+        value = field.mul(value, field.pow(d.get(a, a), i128::from(c[a])));
+    }
+    value
+}
+
+/// The entry of the torus vector at an axis, which counts from 1: by its cover line, if it has one.
+fn covered_value(
+    field: &Field,
+    datum: &Datum,
+    audited: &Audited,
+    d: &Dense,
+    values: &[Fe],
+    axis: usize,
+) -> Fe
+    requires datum { datum.now ≡ audited.now.datum }
+    requires axis { (1 ≤ axis) × (axis ≤ datum.now.base.dim) }
+    requires covered { IsAxisCovered datum.now audited.now.module audited.now.lines axis }
+    requires diagonal { IsInvertibleDiagonal (field_ring field.now) (dimension audited.now.module) d.now }
+    requires values { AreRootValues field.now datum.now audited.now.module d.now (2 * length datum.now.positive) values.now }
+    ensures { IsValueAt field.now audited.now.module d.now (unit 8 axis) result }
+{
+    datum.loaded();
+    let space = audited.module();
+    match audited.cover(axis) {
+        Some(c) => line_value(field, space, d, c),
+        None => axis_value(field, datum, space, d, values, axis),
+    }
+}
+
+/// The entries of the torus vector at all axes.
+fn axis_values(field: &Field, datum: &Datum, audited: &Audited, d: &Dense, values: &[Fe]) -> [Fe; 8]
+    requires datum { datum.now ≡ audited.now.datum }
+    requires covering { IsCovering field.now datum.now audited.now.module audited.now.lines }
+    requires diagonal { IsInvertibleDiagonal (field_ring field.now) (dimension audited.now.module) d.now }
+    requires values { AreRootValues field.now datum.now audited.now.module d.now (2 * length datum.now.positive) values.now }
     ensures long { length result ≡ 8 }
-    ensures each { (j : ℕ) → j < datum.now.base.dim → IsValueAt field.now space.now d.now (unit 8 (j + 1)) (slice_index_or result j 0) }
+    ensures each { (j : ℕ) → j < datum.now.base.dim → IsValueAt field.now audited.now.module d.now (unit 8 (j + 1)) (slice_index_or result j 0) }
 {
     datum.loaded();
     let mut entries = [Fe::zero(); 8];
     for j in 0..datum.d() {
-        entries[j] = axis_value(field, datum, space, d, values, j + 1);
+        entries[j] = covered_value(field, datum, audited, d, values, j + 1);
     }
     entries
 }
@@ -225,19 +264,17 @@ pub(crate) fn torus_of(
     alloc: Global,
     field: &Field,
     datum: &Datum,
-    space: &Module,
+    audited: &Audited,
     d: &Dense,
 ) -> Result<Torus, AllocError>
-    requires space { IsModule datum.now space.now }
-    requires light { HasLightWeights space.now }
-    requires graded { IsGraded datum.now space.now }
-    requires covering { IsCovering field.now datum.now space.now }
-    requires diagonal { IsInvertibleDiagonal (field_ring field.now) (dimension space.now) d.now }
-    ensures { IfOk result (IsTorusOf field.now datum.now space.now d.now) }
+    requires datum { datum.now ≡ audited.now.datum }
+    requires covering { IsCovering field.now datum.now audited.now.module audited.now.lines }
+    requires diagonal { IsInvertibleDiagonal (field_ring field.now) (dimension audited.now.module) d.now }
+    ensures { IfOk result (IsTorusOf field.now datum.now audited.now.module d.now) }
 {
     datum.loaded();
-    let values = root_values(alloc, field, datum, space, d)?;
-    let entries = axis_values(field, datum, space, d, &values);
+    let values = root_values(alloc, field, datum, audited.module(), d)?;
+    let entries = axis_values(field, datum, audited, d, &values);
     match Torus::of(field, &entries[..datum.d()]) {
         Some(t) => Ok(t),
         None => unreachable!(),

@@ -1,4 +1,4 @@
--- The replies to `module` and `matrix`.
+-- The replies to `module`, `cover` and `matrix`.
 -- Own.
 use Rattle.std.specs.Prelude.{ℕ, List, ◌++◌, map, codes, decimal}
 use Rattle.std.specs.List.{join_with_byte, flat_map, range_with_len}
@@ -7,6 +7,10 @@ use Rattle.lie_ring.specs.Matrices.{Matrix, entry}
 -- the reply to `module`: the name, and the dimension
 abbrev pub module_text : List ℕ → ℕ → List ℕ
 module_text name dimension = codes "module " ++ name ++ codes " " ++ decimal dimension ++ codes "\n"
+
+-- the reply to `cover`: the name, and the coordinate
+abbrev pub covered_text : List ℕ → ℕ → List ℕ
+covered_text name axis = codes "covered " ++ name ++ codes " " ++ decimal axis ++ codes "\n"
 
 -- the text of an entry
 abbrev pub entry_text : Matrix ℕ → ℕ → ℕ → List ℕ

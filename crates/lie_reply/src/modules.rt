@@ -1,6 +1,6 @@
-//! The replies to `module` and `matrix`.
+//! The replies to `module`, `cover` and `matrix`.
 ghost use Rattle.std.specs.Prelude.{◌≡◌, ◌<◌, ◌++◌, OnOk, IfOk};
-ghost use Rattle.lie_reply.specs.Modules.{module_text as text_of_module, row_text, matrix_text as text_of_matrix};
+ghost use Rattle.lie_reply.specs.Modules.{module_text as text_of_module, covered_text as text_of_cover, row_text, matrix_text as text_of_matrix};
 
 use lie_dense::Dense;
 use lie_script::{Text, put_number};
@@ -14,6 +14,18 @@ pub fn module_text(alloc: Global, name: &[u8], dimension: usize) -> Result<Text,
     out.extend_from_slice(name)?;
     out.extend_from_slice(b" ")?;
     put_number(&mut out, dimension as i128)?;
+    out.extend_from_slice(b"\n")?;
+    Ok(Text::of(out))
+}
+
+/// `covered <name> <coordinate>`.
+pub fn covered_text(alloc: Global, name: &[u8], axis: usize) -> Result<Text, AllocError>
+    ensures { IfOk result (λ text. text ≡ text_of_cover name.now axis) }
+{
+    let mut out = Vec::from_slice(alloc, b"covered ")?;
+    out.extend_from_slice(name)?;
+    out.extend_from_slice(b" ")?;
+    put_number(&mut out, axis as i128)?;
     out.extend_from_slice(b"\n")?;
     Ok(Text::of(out))
 }

@@ -1,6 +1,6 @@
 -- What holds of the lines that pass their checks.
-use Rattle.std.proofs.Common.{◌≡◌, ◌≢◌, ℕ, ◌+◌, true, List, [], ◌∷◌, length, ℤ, pos, nat_abs, ◌∙◌, arith, Ok, refl, sym, subst, ◌≤◌, Bool, false, Option, Some, None, negsuc, ◌<◌}
-use Rattle.std.specs.Prelude.{◌&&◌, ◌||◌, not, nat_eq, nat_lt, nat_le, is_some, IfOk}
+use Rattle.std.proofs.Common.{◌≡◌, ◌≢◌, ℕ, ◌+◌, true, List, [], ◌∷◌, length, ℤ, pos, nat_abs, ◌∙◌, arith, Ok, refl, sym, ap, subst, ◌≤◌, Bool, false, Option, Some, None, negsuc, ◌<◌}
+use Rattle.std.specs.Prelude.{◌&&◌, ◌||◌, not, nat_eq, nat_lt, nat_le, is_some, IfOk, IsSome}
 use Rattle.std.specs.List.{All, AllByRecursion, slice_split}
 use Rattle.std.proofs.lemmas.List.{length-take}
 use Rattle.std.proofs.lemmas.List.Elements.{All-take, All-from_recursion}
@@ -8,27 +8,28 @@ use Rattle.std.proofs.lemmas.Bool.{eqb-true}
 use Rattle.std.proofs.lemmas.Result.{IfOk-at_ok}
 use Rattle.lie_letters.specs.Spelled.{IsWordOver}
 use Rattle.lie_letters.specs.declared.letter.Letter.{Letter}
-use Rattle.lie_script.specs.Accepted.{IsWordWithin, IsNewName, Fits, AcceptedLinesFit}
+use Rattle.lie_script.specs.Accepted.{IsWordWithin, IsNewName, IsEntry, IsCover, Fits, AcceptedLinesFit}
 use Rattle.lie_script.specs.Checks.{unless, found, none_at}
 use Rattle.lie_script.specs.Fields.{Span, fields_of, foreign_from, begins_with}
-use Rattle.lie_script.specs.Kinds.{field_of, field_line, datum_line, vector, root_line, coroot_line, bare_line, word_line, constant_line, is_dash, weyl_of, weyl_line, row_line}
+use Rattle.lie_script.specs.Kinds.{field_of, field_line, datum_line, vector, root_line, coroot_line, bare_line, word_line, constant_line, is_dash, weyl_of, weyl_line, weight_line, entry_line, row_line}
 use Rattle.lie_script.specs.Names.{Listed, dimension_of}
 use Rattle.lie_script.specs.Letters.{word, few_letters, letters, is_semicolon, two_sides, two_words}
-use Rattle.lie_script.specs.Modules.{is_name, kind_of, new_name, kind_line, module_line, matrix_line, reduce_line}
+use Rattle.lie_script.specs.Modules.{is_name, kind_of, known, two_modules, new_name, kind_line, module_line, cover_line, matrix_line, reduce_line}
 use Rattle.lie_script.specs.Numbers.{is_within, is_element, allows, integer, number, numbers, natural}
 use Rattle.lie_script.specs.Reading.{keyword_of, is_command, begins, own_line, spoken, said, reads}
 use Rattle.lie_script.specs.declared.allowed.Allowed.{Allowed}
-use Rattle.lie_script.specs.declared.allowed.Allowed.TheVariants.{Within, RootOf, ElementOf}
+use Rattle.lie_script.specs.declared.allowed.Allowed.TheVariants.{Within, NonzeroWithin, SignedSimpleOf, RootOf, ElementOf}
 use Rattle.lie_script.specs.declared.faults.FaultName.TheVariants as fault
+use Rattle.lie_script.specs.declared.faults.Fault.{Fault}
 use Rattle.lie_script.specs.declared.faults.Fault.TheVariants.{Bare, At}
 use Rattle.lie_script.specs.declared.module_kind.ModuleKind.{ModuleKind}
-use Rattle.lie_script.specs.declared.module_kind.ModuleKind.TheVariants.{Adjoint, Orbit}
+use Rattle.lie_script.specs.declared.module_kind.ModuleKind.TheVariants.{Adjoint, Orbit, Sum, Tensor, Dual, Table}
 use Rattle.lie_script.specs.declared.keyword.Keyword.{Keyword}
 use Rattle.lie_script.specs.declared.keyword.Keyword.TheVariants as keyword
 use Rattle.lie_script.specs.declared.sizes.Sizes.{Sizes}
 use Rattle.lie_script.specs.declared.sizes.Wants.{Wants}
 use Rattle.lie_script.specs.declared.sizes.Wants.TheVariants as wants
-use Rattle.lie_script.proofs.Steps.{unless-ok, bind-all, unless-all, if-all, each-ok, IfOk-from}
+use Rattle.lie_script.proofs.Steps.{unless-ok, unless-passed, bind-all, unless-all, if-all, each-ok}
 use Rattle.lie_script.proofs.Elements.{word-over, letters-over}
 
 -- a number that was read is allowed
@@ -41,11 +42,37 @@ numbers-ok : (allowed : Allowed) (fields : List Span) (v : List ℤ) → numbers
 unfolding numbers
 numbers-ok allowed fields v h = each-ok (λ n. allows allowed n ≡ true) (number allowed) (λ field n is. IfOk-at_ok (λ k. allows allowed k ≡ true) is (number-allowed allowed field)) fields v h
 
--- a vector has as many numbers as its count says
-vector-long : (count : ℕ) (allowed : Allowed) (fields : List Span) → IfOk (vector count allowed fields) (λ v. length v ≡ count)
+-- a vector has as many numbers as its count says, and all are allowed
+vector-ok : (count : ℕ) (allowed : Allowed) (fields : List Span) (v : List ℤ) → vector count allowed fields ≡ Ok v → (length v ≡ count) × AllByRecursion (λ n. allows allowed n ≡ true) v
 unfolding vector
-vector-long count allowed fields =
-    unless-all (λ v. length v ≡ count) (nat_eq (length fields) count) _ (numbers allowed fields) (λ counted. IfOk-from (λ v. length v ≡ count) (numbers allowed fields) (λ v is. (numbers-ok allowed fields v is).0 ∙ eqb-true (length fields) count counted))
+vector-ok count allowed fields v is =
+    let read = unless-ok (nat_eq (length fields) count) (At fault.Fields (length fields)) (numbers allowed fields) v is in
+    let ok = numbers-ok allowed fields v read.1 in
+    (ok.0 ∙ eqb-true (length fields) count read.0, ok.1)
+
+-- a number between two that aren't negative
+naturals-within : (low high : ℕ) (n : ℤ) → is_within (pos low) (pos high) n ≡ true → (low ≤ nat_abs n) × (nat_abs n ≤ high)
+naturals-within low high (pos n) h = (grind arith, grind arith)
+naturals-within low high (negsuc n) h = (grind arith, grind arith)
+
+-- a natural number that was read lies in its range
+natural-within : (low high : ℕ) (field : Span) → IfOk (natural low high field) (λ n. (low ≤ n) × (n ≤ high))
+unfolding natural
+natural-within low high field =
+    let allowed = Within (pos low) (pos high) in
+    bind-all (λ n. (low ≤ n) × (n ≤ high)) (number allowed field) _ (λ n is. naturals-within low high n (IfOk-at_ok (λ k. allows allowed k ≡ true) is (number-allowed allowed field)))
+
+natural-ok : (low high : ℕ) (field : Span) (n : ℕ) → natural low high field ≡ Ok n → (low ≤ n) × (n ≤ high)
+natural-ok low high field n is = IfOk-at_ok (λ k. (low ≤ k) × (k ≤ high)) is (natural-within low high field)
+
+-- an index of a simple root, or its opposite
+simple-within : (l : ℕ) (n : ℤ) → allows (SignedSimpleOf l) n ≡ true → (1 ≤ nat_abs n) × (nat_abs n ≤ l)
+simple-within l n h = (grind (arith, h), grind (arith, h))
+
+-- a number within 100 that isn't 0
+value-within : (n : ℤ) → allows (NonzeroWithin (negsuc 99) (pos 100)) n ≡ true → (1 ≤ nat_abs n) × (nat_abs n ≤ 100)
+value-within (pos n) h = (grind (arith, h), grind (arith, h))
+value-within (negsuc n) h = (grind (arith, h), grind (arith, h))
 
 -- the kind of line at which a word is awaited
 abbrev awaited_by : Keyword → Wants
@@ -65,6 +92,9 @@ awaited_by keyword.Weyl = wants.Command
 awaited_by keyword.Module = wants.Command
 awaited_by keyword.Matrix = wants.Command
 awaited_by keyword.Reduce = wants.Command
+awaited_by keyword.Weight = wants.Weight
+awaited_by keyword.Entry = wants.Entry
+awaited_by keyword.Cover = wants.Command
 awaited_by keyword.Row = wants.Row
 
 -- a word that begins a line was awaited
@@ -85,6 +115,9 @@ begun keyword.Weyl wants.Command due = refl
 begun keyword.Module wants.Command due = refl
 begun keyword.Matrix wants.Command due = refl
 begun keyword.Reduce wants.Command due = refl
+begun keyword.Weight wants.Weight due = refl
+begun keyword.Entry wants.Entry due = refl
+begun keyword.Cover wants.Command due = refl
 begun keyword.Row wants.Row due = refl
 begun word awaited due = absurd cc
 
@@ -138,6 +171,24 @@ new_name-ok listed name u spelled h =
     room true is h = grind (arith, is)
     room false is h = absurd cc
 
+-- a module has a name that passed the test
+known-there : (listed : Listed) (name : Span) (u : Unit {0}) → known listed name ≡ Ok u → IsSome (dimension_of listed name.bytes)
+unfolding known
+known-there listed name u is = unless-passed (is_some (dimension_of listed name.bytes)) (At fault.Unknown name.column) u is
+
+-- modules have both names
+abbrev AreThere : Listed → List ℕ × List ℕ → Type 0
+AreThere listed pair = IsSome (dimension_of listed pair.0) × IsSome (dimension_of listed pair.1)
+
+two_modules-there : (listed : Listed) (fields : List Span) → IfOk (two_modules listed fields) (AreThere listed)
+unfolding two_modules
+two_modules-there listed [] = tt
+two_modules-there listed (a ∷ []) = tt
+two_modules-there listed (a ∷ b ∷ []) =
+    let P = AreThere listed in
+    bind-all P (known listed a) _ (λ u is. bind-all P (known listed b) _ (λ v are. (known-there listed a u is, known-there listed b v are)))
+two_modules-there listed (a ∷ b ∷ more ∷ fields) = tt
+
 kind_line-fits : (sizes : Sizes) (listed : Listed) (name : Span) (kind : ModuleKind) (fields : List Span) → is_name name.bytes ≡ true → IfOk (kind_line sizes listed name kind fields) (Fits wants.Command sizes listed)
 unfolding kind_line
 kind_line-fits sizes listed name Adjoint fields spelled =
@@ -151,6 +202,29 @@ kind_line-fits sizes listed name Orbit fields spelled =
       (numbers-ok (Within (negsuc 99) (pos 100)) fields v are).0 ∙ eqb-true (length fields) sizes.d counted,
       All-from_recursion (λ c. is_within (negsuc 99) (pos 100) c ≡ true) v (numbers-ok (Within (negsuc 99) (pos 100)) fields v are).1,
     ))))
+kind_line-fits sizes listed name Sum fields spelled =
+    let P = Fits wants.Command sizes listed in
+    bind-all P (two_modules listed fields) _ (λ pair are. bind-all P (new_name listed name) _ (λ u is.
+    let there = IfOk-at_ok (AreThere listed) are (two_modules-there listed fields) in
+    (refl, new_name-ok listed name u spelled is, there.0, there.1)))
+kind_line-fits sizes listed name Tensor fields spelled =
+    let P = Fits wants.Command sizes listed in
+    bind-all P (two_modules listed fields) _ (λ pair are. bind-all P (new_name listed name) _ (λ u is.
+    let there = IfOk-at_ok (AreThere listed) are (two_modules-there listed fields) in
+    (refl, new_name-ok listed name u spelled is, there.0, there.1)))
+kind_line-fits sizes listed name Dual [] spelled = tt
+kind_line-fits sizes listed name Dual (a ∷ []) spelled =
+    let P = Fits wants.Command sizes listed in
+    bind-all P (known listed a) _ (λ u there. bind-all P (new_name listed name) _ (λ v is. (refl, new_name-ok listed name v spelled is, known-there listed a u there)))
+kind_line-fits sizes listed name Dual (a ∷ more ∷ fields) spelled = tt
+kind_line-fits sizes listed name Table [] spelled = tt
+kind_line-fits sizes listed name Table (n ∷ []) spelled = tt
+kind_line-fits sizes listed name Table (n ∷ e ∷ []) spelled =
+    let P = Fits wants.Command sizes listed in
+    bind-all P (natural 1 300 n) _ (λ many n_is. bind-all P (natural 0 20000 e) _ (λ more e_is. bind-all P (new_name listed name) _ (λ u is.
+    let bounds = natural-ok 1 300 n many n_is in
+    (refl, new_name-ok listed name u spelled is, bounds.0, bounds.1, (natural-ok 0 20000 e more e_is).1))))
+kind_line-fits sizes listed name Table (n ∷ e ∷ more ∷ fields) spelled = tt
 
 module_line-fits : (sizes : Sizes) (listed : Listed) (fields : List Span) → IfOk (module_line sizes listed fields) (Fits wants.Command sizes listed)
 unfolding module_line
@@ -159,6 +233,25 @@ module_line-fits sizes listed (name ∷ []) = tt
 module_line-fits sizes listed (name ∷ kind ∷ fields) =
     let P = Fits wants.Command sizes listed in
     unless-all P (is_name name.bytes) _ _ (λ spelled. bind-all P (found (kind_of kind.bytes) (At fault.Kind kind.column)) _ (λ k is. kind_line-fits sizes listed name k fields spelled))
+
+cover_line-fits : (sizes : Sizes) (listed : Listed) (fields : List Span) → IfOk (cover_line sizes listed fields) (Fits wants.Command sizes listed)
+unfolding cover_line
+cover_line-fits sizes listed [] = tt
+cover_line-fits sizes listed (name ∷ []) = tt
+cover_line-fits sizes listed (name ∷ axis ∷ fields) =
+    let P = Fits wants.Command sizes listed in
+    let allowed = Within (negsuc 999999) (pos 1000000) in
+    bind-all P (found (dimension_of listed name.bytes) _) _ (λ dimension there. bind-all P (natural 1 sizes.d axis) _ (λ j is. unless-all P (nat_eq (length fields) dimension) _ _ (λ counted. bind-all P (numbers allowed fields) _ (λ c are.
+    let ok = numbers-ok allowed fields c are in
+    (refl, record {
+      known = found-some (dimension_of listed name.bytes) (At fault.Unknown name.column) dimension there ∙ ap Some (sym (ok.0 ∙ eqb-true (length fields) dimension counted));
+      axis_is = natural-ok 1 sizes.d axis j is;
+      small = All-from_recursion (λ k. is_within (negsuc 999999) (pos 1000000) k ≡ true) c ok.1
+    })))))
+  where
+    found-some : (o : Option ℕ) (e : Fault) (n : ℕ) → found o e ≡ Ok n → o ≡ Some n
+    found-some None e n h = absurd cc
+    found-some (Some k) e n h = cc
 
 -- a word that was read is a word of each frame with the sizes
 word-within : (sizes : Sizes) (fields : List Span) (w : List Letter) → word sizes fields ≡ Ok w → IsWordWithin sizes w
@@ -189,31 +282,60 @@ matrix_line-fits sizes listed [] = tt
 matrix_line-fits sizes listed (name ∷ []) = tt
 matrix_line-fits sizes listed (name ∷ first ∷ fields) =
     let P = Fits wants.Command sizes listed in
-    unless-all P (is_some (dimension_of listed name.bytes)) _ _ (λ known. bind-all P (word sizes (first ∷ fields)) _ (λ w is. (refl, known, word-within sizes (first ∷ fields) w is)))
+    bind-all P (known listed name) _ (λ u there. bind-all P (word sizes (first ∷ fields)) _ (λ w is. (refl, known-there listed name u there, word-within sizes (first ∷ fields) w is)))
 
 reduce_line-fits : (sizes : Sizes) (listed : Listed) (fields : List Span) → IfOk (reduce_line listed fields) (Fits wants.Command sizes listed)
 unfolding reduce_line
 reduce_line-fits sizes listed [] = tt
-reduce_line-fits sizes listed (name ∷ []) = unless-all (Fits wants.Command sizes listed) (is_some (dimension_of listed name.bytes)) _ _ (λ known. (refl, known))
+reduce_line-fits sizes listed (name ∷ []) = bind-all (Fits wants.Command sizes listed) (known listed name) _ (λ u there. (refl, known-there listed name u there))
 reduce_line-fits sizes listed (name ∷ more ∷ fields) = tt
 
 row_line-fits : (sizes : Sizes) (listed : Listed) (fields : List Span) → IfOk (row_line sizes fields) (Fits wants.Row sizes listed)
-unfolding row_line vector
+unfolding row_line
 row_line-fits sizes listed fields =
     let P = Fits wants.Row sizes listed in
     let allowed = ElementOf sizes.q in
     bind-all P (vector sizes.dim allowed fields) _ (λ row is.
-    let read = unless-ok (nat_eq (length fields) sizes.dim) (At fault.Fields (length fields)) (numbers allowed fields) row is in
-    let ok = numbers-ok allowed fields row read.1 in
-    (refl, ok.0 ∙ eqb-true (length fields) sizes.dim read.0, All-from_recursion (λ a. is_element sizes.q a ≡ true) row ok.1))
+    let ok = vector-ok sizes.dim allowed fields row is in
+    (refl, ok.0, All-from_recursion (λ a. is_element sizes.q a ≡ true) row ok.1))
+
+weight_line-fits : (sizes : Sizes) (listed : Listed) (fields : List Span) → IfOk (weight_line sizes fields) (Fits wants.Weight sizes listed)
+unfolding weight_line
+weight_line-fits sizes listed fields =
+    let P = Fits wants.Weight sizes listed in
+    let allowed = Within (negsuc 999) (pos 1000) in
+    bind-all P (vector sizes.d allowed fields) _ (λ v is.
+    let ok = vector-ok sizes.d allowed fields v is in
+    (refl, ok.0, All-from_recursion (λ c. is_within (negsuc 999) (pos 1000) c ≡ true) v ok.1))
+
+entry_line-fits : (sizes : Sizes) (listed : Listed) (fields : List Span) → IfOk (entry_line sizes fields) (Fits wants.Entry sizes listed)
+entry_line-fits sizes listed [] = tt
+entry_line-fits sizes listed (i ∷ []) = tt
+entry_line-fits sizes listed (i ∷ k ∷ []) = tt
+entry_line-fits sizes listed (i ∷ k ∷ row ∷ []) = tt
+entry_line-fits sizes listed (i ∷ k ∷ row ∷ col ∷ []) = tt
+entry_line-fits sizes listed (i ∷ k ∷ row ∷ col ∷ value ∷ []) =
+    let P = Fits wants.Entry sizes listed in
+    let simples = SignedSimpleOf sizes.l in
+    let values = NonzeroWithin (negsuc 99) (pos 100) in
+    bind-all P (number simples i) _ (λ s s_is. bind-all P (natural 1 16 k) _ (λ power power_is. bind-all P (natural 1 sizes.dim row) _ (λ r r_is.
+    bind-all P (natural 1 sizes.dim col) _ (λ c c_is. bind-all P (number values value) _ (λ v v_is.
+    (refl, record {
+      simple_is = simple-within sizes.l s (IfOk-at_ok (λ n. allows simples n ≡ true) s_is (number-allowed simples i));
+      power_is = natural-ok 1 16 k power power_is;
+      row_is = natural-ok 1 sizes.dim row r r_is;
+      col_is = natural-ok 1 sizes.dim col c c_is;
+      value_is = value-within v (IfOk-at_ok (λ n. allows values n ≡ true) v_is (number-allowed values value))
+    }))))))
+entry_line-fits sizes listed (i ∷ k ∷ row ∷ col ∷ value ∷ more ∷ fields) = tt
 
 own_line-fits : (sizes : Sizes) (listed : Listed) (word : Keyword) (fields : List Span) → IfOk (own_line sizes listed word fields) (Fits (awaited_by word) sizes listed)
 unfolding own_line field_line root_line coroot_line bare_line word_line weyl_line
 own_line-fits sizes listed keyword.Field fields =
     bind-all (Fits wants.Field sizes listed) (numbers _ fields) _ (λ all is. field_of-fits sizes listed fields all (numbers-ok _ fields all is).1)
 own_line-fits sizes listed keyword.Datum fields = datum_line-fits sizes listed fields
-own_line-fits sizes listed keyword.Root fields = bind-all (Fits wants.Root sizes listed) (vector sizes.d _ fields) _ (λ v is. (refl, IfOk-at_ok (λ v. length v ≡ sizes.d) is (vector-long sizes.d _ fields)))
-own_line-fits sizes listed keyword.Coroot fields = bind-all (Fits wants.Coroot sizes listed) (vector sizes.d _ fields) _ (λ v is. (refl, IfOk-at_ok (λ v. length v ≡ sizes.d) is (vector-long sizes.d _ fields)))
+own_line-fits sizes listed keyword.Root fields = bind-all (Fits wants.Root sizes listed) (vector sizes.d _ fields) _ (λ v is. (refl, (vector-ok sizes.d _ fields v is).0))
+own_line-fits sizes listed keyword.Coroot fields = bind-all (Fits wants.Coroot sizes listed) (vector sizes.d _ fields) _ (λ v is. (refl, (vector-ok sizes.d _ fields v is).0))
 own_line-fits sizes listed keyword.Collect fields = bind-all (Fits wants.Load sizes listed) (word_line sizes fields) _ (λ w is. (refl, word_line-within sizes fields w is))
 own_line-fits sizes listed keyword.Load fields = unless-all (Fits wants.Load sizes listed) (nat_eq (length fields) 0) _ _ (λ counted. refl)
 own_line-fits sizes listed keyword.Form fields = bind-all (Fits wants.Command sizes listed) (word_line sizes fields) _ (λ w is. (refl, word_line-within sizes fields w is))
@@ -223,6 +345,9 @@ own_line-fits sizes listed keyword.Inv fields = bind-all (Fits wants.Command siz
 own_line-fits sizes listed keyword.Roots fields = unless-all (Fits wants.Command sizes listed) (nat_eq (length fields) 0) _ _ (λ counted. refl)
 own_line-fits sizes listed keyword.Constant fields = constant_line-fits sizes listed fields
 own_line-fits sizes listed keyword.Module fields = module_line-fits sizes listed fields
+own_line-fits sizes listed keyword.Weight fields = weight_line-fits sizes listed fields
+own_line-fits sizes listed keyword.Entry fields = entry_line-fits sizes listed fields
+own_line-fits sizes listed keyword.Cover fields = cover_line-fits sizes listed fields
 own_line-fits sizes listed keyword.Matrix fields = matrix_line-fits sizes listed fields
 own_line-fits sizes listed keyword.Reduce fields = reduce_line-fits sizes listed fields
 own_line-fits sizes listed keyword.Row fields = row_line-fits sizes listed fields

@@ -16,6 +16,11 @@ pub unless-ok : {B : Type 0} (t : Bool) (e : Fault) (r : Result B Fault) (y : B)
 unless-ok true e r y h = (refl, h)
 unless-ok false e r y h = absurd cc
 
+-- the same of the last check
+pub unless-passed : (t : Bool) (e : Fault) (u : Unit {0}) → unless t e ≡ Ok u → t ≡ true
+unless-passed true e u h = refl
+unless-passed false e u h = absurd cc
+
 -- a value that was given
 pub Ok-is : {A : Type 0} (x y : A) → ◌≡◌ {A = Result A Fault} (Ok x) (Ok y) → x ≡ y
 Ok-is x y e = cc
@@ -51,8 +56,3 @@ pub each-all : {A B : Type 0} (P : A → Type 0) (reader : B → Result A Fault)
 each-all P reader h [] = tt
 each-all P reader h (item ∷ items) =
     bind-all (AllByRecursion P) (reader item) _ (λ x is. bind-all (AllByRecursion P) (each reader items) _ (λ others are. (IfOk-at_ok P is (h item), IfOk-at_ok (AllByRecursion P) are (each-all P reader h items))))
-
--- what holds of the value that a reader gives, if it gives one
-pub IfOk-from : {A : Type 0} (P : A → Type 0) (r : Result A Fault) → ((x : A) → r ≡ Ok x → P x) → IfOk r P
-IfOk-from P (Ok x) h = h x refl
-IfOk-from P (Err e) h = tt

@@ -4,8 +4,8 @@ use Rattle.lie_letters.specs.declared.letter.Letter.TheVariants.{X, H, N, Ninv}
 use Rattle.lie_script.specs.Fields.{fields_of}
 use Rattle.lie_script.specs.Numbers.{number_of, integer, number, numbers, natural}
 use Rattle.lie_script.specs.Letters.{spelled, unit, spelled_list, units, torus_letter, letter, few_letters, root_letter, weyl_letter, letters, word, two_words}
-use Rattle.lie_script.specs.Kinds.{field_of, field_line, vector, root_line, coroot_line, bare_line, word_line, weyl_line, row_line}
-use Rattle.lie_script.specs.Modules.{new_name, kind_line, module_line, matrix_line, reduce_line}
+use Rattle.lie_script.specs.Kinds.{field_of, field_line, vector, root_line, coroot_line, bare_line, word_line, weyl_line, weight_line, row_line}
+use Rattle.lie_script.specs.Modules.{known, two_modules, new_name, kind_line, module_line, cover_line, matrix_line, reduce_line}
 use Rattle.lie_script.specs.Names.{Listed}
 use Rattle.lie_script.specs.Reading.{keyword_of, own_line, spoken, reads}
 use Rattle.lie_script.specs.declared.faults.FaultName.TheVariants as fault
@@ -44,6 +44,9 @@ first_lines =
     (codes "reduce nat", Err (Bare fault.Unloaded)) ∷
     (codes "root 1", Err (Bare fault.Order)) ∷
     (codes "row 1", Err (Bare fault.Order)) ∷
+    (codes "weight 1", Err (Bare fault.Order)) ∷
+    (codes "entry 1 1 1 1 1", Err (Bare fault.Order)) ∷
+    (codes "cover nat 1 1", Err (Bare fault.Unloaded)) ∷
     (codes "collect 1", Err (Bare fault.Order)) ∷
     []
 
@@ -177,8 +180,91 @@ reductions =
     []
 
 reductions_read : IsRead wants.Command (record { d = 1; l = 1; m = 1; q = 5; dim = 0; loaded = true }) ((codes "nat", 2) ∷ []) reductions
-unfolding reads fields_of spoken keyword_of own_line reduce_line
+unfolding reads fields_of spoken keyword_of own_line reduce_line known
 reductions_read = refl
+
+-- modules that are made of others, where one of dimension 2 has a name
+abbrev constructions : Table
+constructions =
+    (codes "module two sum nat nat", Ok (line.Sum (codes "two") (codes "nat") (codes "nat"))) ∷
+    (codes "module b2 tensor nat nat", Ok (line.Tensor (codes "b2") (codes "nat") (codes "nat"))) ∷
+    (codes "module b_ dual nat", Ok (line.Dual (codes "b_") (codes "nat"))) ∷
+    (codes "module nat sum nat adj", Err (At fault.Unknown 20)) ∷
+    (codes "module nat tensor adj two", Err (At fault.Unknown 19)) ∷
+    (codes "module nat dual nat", Err (At fault.Taken 8)) ∷
+    (codes "module b sum nat", Err (At fault.Fields 3)) ∷
+    (codes "module b dual", Err (At fault.Fields 2)) ∷
+    (codes "module b dual nat nat", Err (At fault.Fields 4)) ∷
+    (codes "module B dual", Err (At fault.Name 8)) ∷
+    (codes "module b twist nat", Err (At fault.Kind 10)) ∷
+    (codes "module b", Err (At fault.Fields 1)) ∷
+    (codes "module b table 1 0", Ok (line.Table (codes "b") 1 0)) ∷
+    (codes "module b table 300 20000", Ok (line.Table (codes "b") 300 20000)) ∷
+    (codes "module nat table 0 0", Err (At fault.Range 18)) ∷
+    (codes "module b table 301 x", Err (At fault.Range 16)) ∷
+    (codes "module b table 1 20001", Err (At fault.Range 18)) ∷
+    (codes "module b table x 0", Err (At fault.Number 16)) ∷
+    (codes "module nat table 1 0", Err (At fault.Taken 8)) ∷
+    (codes "module b table 1", Err (At fault.Fields 3)) ∷
+    (codes "weight 1", Err (Bare fault.Order)) ∷
+    (codes "entry 1 1 1 2 1", Err (Bare fault.Order)) ∷
+    (codes "cover nat 1 1 0", Ok (line.Cover (codes "nat") 1 (pos 1 ∷ pos 0 ∷ []))) ∷
+    (codes "cover nat 01 -1000000 1000000", Ok (line.Cover (codes "nat") 1 (negsuc 999999 ∷ pos 1000000 ∷ []))) ∷
+    (codes "cover nat", Err (At fault.Fields 1)) ∷
+    (codes "cover adj 2", Err (At fault.Unknown 7)) ∷
+    (codes "cover nat 2", Err (At fault.Range 11)) ∷
+    (codes "cover nat 0 x", Err (At fault.Range 11)) ∷
+    (codes "cover nat x", Err (At fault.Number 11)) ∷
+    (codes "cover nat 1 1", Err (At fault.Fields 3)) ∷
+    (codes "cover nat 1 1000001 x", Err (At fault.Range 13)) ∷
+    (codes "cover nat 1 1 x", Err (At fault.Number 15)) ∷
+    []
+
+constructions_read : IsRead wants.Command (record { d = 1; l = 1; m = 1; q = 5; dim = 0; loaded = true }) ((codes "nat", 2) ∷ []) constructions
+unfolding reads fields_of spoken keyword_of own_line module_line kind_line known two_modules new_name cover_line integer number numbers natural
+constructions_read = refl
+
+-- where a weight of a table is awaited, with two coordinates
+abbrev weights : Table
+weights =
+    (codes "weight 1000 -1000", Ok (line.Weight (pos 1000 ∷ negsuc 999 ∷ []))) ∷
+    (codes "weight 1001 x", Err (At fault.Range 8)) ∷
+    (codes "weight 0 -1001", Err (At fault.Range 10)) ∷
+    (codes "weight x 1001", Err (At fault.Number 8)) ∷
+    (codes "weight 0", Err (At fault.Fields 1)) ∷
+    (codes "entry 1 1 1 2 1", Err (Bare fault.Order)) ∷
+    (codes "roots", Err (Bare fault.Order)) ∷
+    (codes "# weight", Ok line.Silent) ∷
+    []
+
+weights_read : IsRead wants.Weight (record { d = 2; l = 2; m = 3; q = 5; dim = 3; loaded = true }) [] weights
+unfolding reads fields_of spoken keyword_of own_line vector weight_line integer number numbers
+weights_read = refl
+
+-- where an entry of a table of three weights is awaited
+abbrev entries : Table
+entries =
+    (codes "entry -2 16 1 3 -100", Ok (line.Entry (negsuc 1) 16 1 3 (negsuc 99))) ∷
+    (codes "entry 2 1 3 1 100", Ok (line.Entry (pos 2) 1 3 1 (pos 100))) ∷
+    (codes "entry 0 1 1 1 1", Err (At fault.Simple 7)) ∷
+    (codes "entry 3 17 1 1 1", Err (At fault.Simple 7)) ∷
+    (codes "entry -3 1 1 1 1", Err (At fault.Simple 7)) ∷
+    (codes "entry 1000000000000000000 1 1 1 1", Err (At fault.Range 7)) ∷
+    (codes "entry 1 17 4 1 1", Err (At fault.Range 9)) ∷
+    (codes "entry 1 0 1 1 1", Err (At fault.Range 9)) ∷
+    (codes "entry 1 1 4 0 1", Err (At fault.Range 11)) ∷
+    (codes "entry 1 1 3 0 x", Err (At fault.Range 13)) ∷
+    (codes "entry 1 1 1 1 0", Err (At fault.Range 15)) ∷
+    (codes "entry 1 1 1 1 -0", Err (At fault.Range 15)) ∷
+    (codes "entry 1 1 1 1 101", Err (At fault.Range 15)) ∷
+    (codes "entry 1 1 1 1 x", Err (At fault.Number 15)) ∷
+    (codes "entry 1 1 1 1", Err (At fault.Fields 4)) ∷
+    (codes "weight 0 0", Err (Bare fault.Order)) ∷
+    []
+
+entries_read : IsRead wants.Entry (record { d = 2; l = 2; m = 3; q = 5; dim = 3; loaded = true }) [] entries
+unfolding reads fields_of spoken keyword_of own_line integer number natural
+entries_read = refl
 
 -- where a row of the matrix is awaited
 abbrev rows : Table

@@ -10,6 +10,9 @@
 --   roots                         no fields
 --   constant r s                  signed numbers of two roots, neither equal nor opposite
 --   weyl i_1 .. i_n               indices of simple roots, at most 4,096; a lone `-` stands for none
+--   weight v_1 .. v_d             a weight of a table, each coordinate within 1,000
+--   entry i k row col value       an entry of the k-th divided power of E_i, or of E_-i where i is negative: k in 1 .. 16, the places
+--                                 in 1 .. n, n being the number of weights of the table, and a value within 100 that isn't 0
 --   row e_1 .. e_n                a row of a matrix: the numbers of n elements of the field, n being the dimension of the module
 use Rattle.std.specs.Prelude.{ℕ, ◌+◌, ◌&&◌, not, nat_eq, nat_le, ℤ, pos, negsuc, nat_abs, List, [], ◌∷◌, length, take, get_or, codes, bytes_eq, Bool, false, if◌then◌else◌, Result, Ok}
 use Rattle.lie_letters.specs.declared.letter.Letter.{Letter}
@@ -18,7 +21,7 @@ use Rattle.lie_script.specs.Checks.{◌>>=◌, unless, miscounted}
 use Rattle.lie_script.specs.Numbers.{number, numbers, natural}
 use Rattle.lie_script.specs.Letters.{word}
 use Rattle.lie_script.specs.declared.allowed.Allowed.{Allowed}
-use Rattle.lie_script.specs.declared.allowed.Allowed.TheVariants.{Within, SimpleOf, RootOf, ElementOf}
+use Rattle.lie_script.specs.declared.allowed.Allowed.TheVariants.{Within, NonzeroWithin, SimpleOf, SignedSimpleOf, RootOf, ElementOf}
 use Rattle.lie_script.specs.declared.faults.FaultName.TheVariants as fault
 use Rattle.lie_script.specs.declared.faults.Fault.{Fault}
 use Rattle.lie_script.specs.declared.faults.Fault.TheVariants.{Bare, At}
@@ -108,6 +111,23 @@ weyl_line sizes fields = do
   some ← unless (nat_le 1 (length fields)) (At fault.Fields (length fields))
   few ← unless (nat_le (length fields) 4096) (At fault.Letters (length fields))
   if is_dash fields then Ok (line.Weyl []) else weyl_of sizes fields
+
+-- `weight v_1 .. v_d`
+unfoldable pub weight_line : Sizes → List Span → Result Line Fault
+weight_line sizes fields = do
+  v ← vector sizes.d (Within (negsuc 999) (pos 1000)) fields
+  Ok (line.Weight v)
+
+-- `entry i k row col value`
+abbrev pub entry_line : Sizes → List Span → Result Line Fault
+entry_line sizes (i ∷ k ∷ row ∷ col ∷ value ∷ []) = do
+  i ← number (SignedSimpleOf sizes.l) i
+  k ← natural 1 16 k
+  row ← natural 1 sizes.dim row
+  col ← natural 1 sizes.dim col
+  value ← number (NonzeroWithin (negsuc 99) (pos 100)) value
+  Ok (line.Entry i k row col value)
+entry_line sizes fields = miscounted (length fields)
 
 -- `row e_1 .. e_n`: an element for each column
 unfoldable pub row_line : Sizes → List Span → Result Line Fault

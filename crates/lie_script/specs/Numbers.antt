@@ -3,14 +3,14 @@
 --
 --   a number    an optional `-`, then one or more digits; leading zeros are allowed
 --   its range   where it has more than 18 digits, it is out of every range
-use Rattle.std.specs.Prelude.{ℕ, Bool, ◌&&◌, nat_eq, nat_lt, nat_le, if◌then◌else◌, ℤ, pos, neg_ℤ, nat_abs, int_le, int_lt, List, [], ◌∷◌, length, Option, Some, None, Result, Ok}
+use Rattle.std.specs.Prelude.{ℕ, Bool, not, ◌&&◌, nat_eq, nat_lt, nat_le, if◌then◌else◌, ℤ, pos, neg_ℤ, nat_abs, int_le, int_lt, List, [], ◌∷◌, length, Option, Some, None, Result, Ok}
 use Rattle.std.specs.List.{list_all}
 use Rattle.std.specs.Char.{is_ascii_digit}
 use Rattle.std.specs.Str.Parse.{digits_value}
 use Rattle.lie_script.specs.Fields.{Span, begins_with}
 use Rattle.lie_script.specs.Checks.{◌>>=◌, unless, each}
 use Rattle.lie_script.specs.declared.allowed.Allowed.{Allowed}
-use Rattle.lie_script.specs.declared.allowed.Allowed.TheVariants.{Within, SimpleOf, RootOf, ElementOf}
+use Rattle.lie_script.specs.declared.allowed.Allowed.TheVariants.{Within, NonzeroWithin, SimpleOf, SignedSimpleOf, RootOf, ElementOf}
 use Rattle.lie_script.specs.declared.faults.FaultName.{FaultName}
 use Rattle.lie_script.specs.declared.faults.FaultName.TheVariants.{Number, Range, Root, Simple, Value}
 use Rattle.lie_script.specs.declared.faults.Fault.{Fault}
@@ -55,14 +55,18 @@ is_element q n = int_le (pos 0) n && int_lt n (pos q)
 -- the numbers that are allowed
 abbrev pub allows : Allowed → ℤ → Bool
 allows (Within low high) n = is_within low high n
+allows (NonzeroWithin low high) n = is_within low high n && not (nat_eq (nat_abs n) 0)
 allows (SimpleOf l) n = is_within (pos 1) (pos l) n
+allows (SignedSimpleOf l) n = nat_le 1 (nat_abs n) && nat_le (nat_abs n) l
 allows (RootOf m) n = nat_le 1 (nat_abs n) && nat_le (nat_abs n) m
 allows (ElementOf q) n = is_element q n
 
 -- the fault of the others
 abbrev pub fault_of : Allowed → FaultName
 fault_of (Within low high) = Range
+fault_of (NonzeroWithin low high) = Range
 fault_of (SimpleOf l) = Simple
+fault_of (SignedSimpleOf l) = Simple
 fault_of (RootOf m) = Root
 fault_of (ElementOf q) = Value
 

@@ -12,9 +12,9 @@ use Rattle.std.specs.Prelude.{ℕ, Bool, true, false, not, ◌||◌, nat_le, if�
 use Rattle.std.specs.Map.{lookup}
 use Rattle.lie_script.specs.Fields.{Span, fields_of, foreign_from, begins_with}
 use Rattle.lie_script.specs.Checks.{◌>>=◌, unless, found, none_at}
-use Rattle.lie_script.specs.Kinds.{field_line, datum_line, root_line, coroot_line, bare_line, word_line, constant_line, weyl_line, row_line}
+use Rattle.lie_script.specs.Kinds.{field_line, datum_line, root_line, coroot_line, bare_line, word_line, constant_line, weyl_line, weight_line, entry_line, row_line}
 use Rattle.lie_script.specs.Letters.{two_words}
-use Rattle.lie_script.specs.Modules.{module_line, matrix_line, reduce_line}
+use Rattle.lie_script.specs.Modules.{module_line, cover_line, matrix_line, reduce_line}
 use Rattle.lie_script.specs.Names.{Listed}
 use Rattle.lie_script.specs.declared.faults.FaultName.TheVariants as fault
 use Rattle.lie_script.specs.declared.faults.Fault.{Fault}
@@ -33,7 +33,7 @@ keywords =
     (codes "field", keyword.Field) ∷ (codes "datum", keyword.Datum) ∷ (codes "root", keyword.Root)
     ∷ (codes "coroot", keyword.Coroot) ∷ (codes "collect", keyword.Collect) ∷ (codes "load", keyword.Load)
     ∷ (codes "form", keyword.Form) ∷ (codes "same", keyword.Same) ∷ (codes "mul", keyword.Mul) ∷ (codes "inv", keyword.Inv) ∷ (codes "roots", keyword.Roots) ∷ (codes "constant", keyword.Constant) ∷ (codes "weyl", keyword.Weyl)
-    ∷ (codes "module", keyword.Module) ∷ (codes "matrix", keyword.Matrix) ∷ (codes "reduce", keyword.Reduce) ∷ (codes "row", keyword.Row) ∷ []
+    ∷ (codes "module", keyword.Module) ∷ (codes "weight", keyword.Weight) ∷ (codes "entry", keyword.Entry) ∷ (codes "cover", keyword.Cover) ∷ (codes "matrix", keyword.Matrix) ∷ (codes "reduce", keyword.Reduce) ∷ (codes "row", keyword.Row) ∷ []
 
 -- the word that the bytes spell
 unfoldable pub keyword_of : List ℕ → Option Keyword
@@ -47,6 +47,8 @@ is_command keyword.Root = false
 is_command keyword.Coroot = false
 is_command keyword.Collect = false
 is_command keyword.Load = false
+is_command keyword.Weight = false
+is_command keyword.Entry = false
 is_command keyword.Row = false
 is_command _ = true
 
@@ -59,12 +61,15 @@ begins keyword.Coroot wants.Coroot = true
 begins keyword.Collect wants.Load = true
 begins keyword.Load wants.Load = true
 begins word wants.Command = is_command word
+begins keyword.Weight wants.Weight = true
+begins keyword.Entry wants.Entry = true
 begins keyword.Row wants.Row = true
 begins _ _ = false
 
 -- the words whose lines are read with the field and the datum
 abbrev pub takes_both : Keyword → Bool
 takes_both keyword.Collect = true
+takes_both keyword.Entry = true
 takes_both word = is_command word
 
 -- the reader of each word
@@ -93,6 +98,9 @@ own_line sizes listed keyword.Roots fields = bare_line line.Roots fields
 own_line sizes listed keyword.Constant fields = constant_line sizes fields
 own_line sizes listed keyword.Weyl fields = weyl_line sizes fields
 own_line sizes listed keyword.Module fields = module_line sizes listed fields
+own_line sizes listed keyword.Weight fields = weight_line sizes fields
+own_line sizes listed keyword.Entry fields = entry_line sizes fields
+own_line sizes listed keyword.Cover fields = cover_line sizes listed fields
 own_line sizes listed keyword.Matrix fields = matrix_line sizes listed fields
 own_line sizes listed keyword.Reduce fields = reduce_line listed fields
 own_line sizes listed keyword.Row fields = row_line sizes fields

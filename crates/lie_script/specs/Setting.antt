@@ -26,6 +26,7 @@ pub record HasDatum (sizes : Sizes) (D : RootDatum) : Type 0 where
 -- both are handed in where these lines are awaited
 abbrev pub awaits_both : Wants → Bool
 awaits_both wants.Load = true
+awaits_both wants.Entry = true
 awaits_both _ = false
 
 -- the field and the datum that are handed in belong to the sizes, and both are there where letters may have to be made

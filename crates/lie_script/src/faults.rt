@@ -24,7 +24,7 @@ pub enum FaultName {
     Range,
     /// The number at a column is no signed number of a root.
     Root,
-    /// The number at a column is no index of a simple root.
+    /// The number at a column is no index of a simple root, nor, in `entry`, the opposite of one.
     Simple,
     /// The number of letters, where there are too many.
     Letters,
@@ -46,6 +46,8 @@ pub enum FaultName {
     Taken,
     /// As many modules are there as may be.
     Full,
+    /// The sum of the weights, each times its number, isn't the unit vector: the first coordinate that differs, and its value.
+    Sum,
     /// No word of the group has the matrix.
     Outside,
     /// The dimension is not in 1..=8, or there are more simple roots than that.

@@ -21,6 +21,9 @@ pub enum Keyword {
     Constant,
     Weyl,
     Module,
+    Weight,
+    Entry,
+    Cover,
     Matrix,
     Reduce,
     Row,
@@ -33,7 +36,8 @@ impl Keyword {
     {
         match self {
             Keyword::Field | Keyword::Datum | Keyword::Root | Keyword::Coroot => false,
-            Keyword::Collect | Keyword::Load | Keyword::Row => false,
+            Keyword::Collect | Keyword::Load => false,
+            Keyword::Weight | Keyword::Entry | Keyword::Row => false,
             _ => true,
         }
     }
@@ -49,6 +53,8 @@ impl Keyword {
             Wants::Coroot => self == Keyword::Coroot,
             Wants::Load => self == Keyword::Collect || self == Keyword::Load,
             Wants::Command => self.is_command(),
+            Wants::Weight => self == Keyword::Weight,
+            Wants::Entry => self == Keyword::Entry,
             Wants::Row => self == Keyword::Row,
         }
     }
@@ -87,6 +93,12 @@ pub(crate) fn keyword_of(bytes: &[u8]) -> Option<Keyword>
         Some(Keyword::Weyl)
     } else if bytes == b"module".as_slice() {
         Some(Keyword::Module)
+    } else if bytes == b"weight".as_slice() {
+        Some(Keyword::Weight)
+    } else if bytes == b"entry".as_slice() {
+        Some(Keyword::Entry)
+    } else if bytes == b"cover".as_slice() {
+        Some(Keyword::Cover)
     } else if bytes == b"matrix".as_slice() {
         Some(Keyword::Matrix)
     } else if bytes == b"reduce".as_slice() {

@@ -1,7 +1,8 @@
 //! The kinds of lines.
 ghost use Rattle.std.specs.Prelude.{◌≡◌, ◌∷◌, [], pos, true, All, ◌≤◌};
+ghost use Rattle.lie_datum.specs.RootDatum.{rank};
 ghost use Rattle.lie_script.specs.Checks.{Gives};
-ghost use Rattle.lie_script.specs.Kinds.{field_of as field_of_read, field_line as field_line_read, datum_line as datum_line_read, vector as vector_read, root_line as root_line_read, coroot_line as coroot_line_read, bare_line as bare_line_read, word_line as word_line_read, constant_line as constant_line_read, is_dash as lone_dash, weyl_line as weyl_line_read, row_line as row_line_read};
+ghost use Rattle.lie_script.specs.Kinds.{field_of as field_of_read, field_line as field_line_read, datum_line as datum_line_read, vector as vector_read, root_line as root_line_read, coroot_line as coroot_line_read, bare_line as bare_line_read, word_line as word_line_read, constant_line as constant_line_read, is_dash as lone_dash, weyl_line as weyl_line_read, weight_line as weight_line_read, entry_line as entry_line_read, row_line as row_line_read};
 ghost use Rattle.lie_script.specs.LineFields.{span, spans};
 ghost use Rattle.lie_script.specs.Numbers.{is_within, number as number_read};
 ghost use Rattle.lie_script.specs.Setting.{HasField, HasDatum};
@@ -221,6 +222,78 @@ pub(crate) fn weyl_line(
     }
     let indices = numbers(alloc, Allowed::SimpleOf(sizes.l), fields)?;
     Ok(Line::Weyl(Numbers::of(indices)))
+}
+
+/// `weight v_1 .. v_d`.
+#[tactic(auto, unfolding(crate::specs::Kinds::weight_line))]
+pub(crate) fn weight_line(
+    alloc: Global,
+    sizes: &Sizes,
+    fields: &[LineField<'_>],
+) -> Result<Line, Stop>
+    ensures { Gives (λ line. line) result (weight_line_read sizes.now (spans fields.now)) }
+{
+    Ok(Line::Weight(vector(alloc, sizes.d, Allowed::Within(-1_000, 1_000), fields)?))
+}
+
+/// The number of simple roots of a datum.
+fn simple_count(datum: &Datum) -> usize
+    ensures count { result ≡ rank datum.now.base }
+    ensures bound { result ≤ 8 }
+{
+    datum.loaded();
+    datum.l()
+}
+
+/// The index of one of l simple roots, or its opposite.
+fn simple_number(l: usize, field: &LineField<'_>) -> Result<i32, Fault>
+    requires { l ≤ 8 }
+    ensures { result ≡ number_read (Allowed.SignedSimpleOf l) (span field.now) }
+{
+    let n = number(Allowed::SignedSimpleOf(l), field)?;
+    Ok(n as i32)
+}
+
+/// The fields of `entry`.
+fn entry_of(
+    sizes: &Sizes,
+    i: &LineField<'_>,
+    k: &LineField<'_>,
+    row: &LineField<'_>,
+    col: &LineField<'_>,
+    value: &LineField<'_>,
+) -> Result<Line, Fault>
+    requires { sizes.now.l ≤ 8 }
+    ensures { result ≡ entry_line_read sizes.now (span i.now ∷ span k.now ∷ span row.now ∷ span col.now ∷ span value.now ∷ []) }
+{
+    let simple = simple_number(sizes.l, i)?;
+    let power = natural(1, 16, k)?;
+    let row = natural(1, sizes.dim, row)?;
+    let col = natural(1, sizes.dim, col)?;
+    let value = number(Allowed::NonzeroWithin(-100, 100), value)?;
+    Ok(Line::Entry {
+        simple,
+        power: power as u32,
+        row,
+        col,
+        value,
+    })
+}
+
+/// `entry i k row col value`.
+pub(crate) fn entry_line(
+    sizes: &Sizes,
+    datum: &Datum,
+    fields: &[LineField<'_>],
+) -> Result<Line, Fault>
+    requires { HasDatum sizes.now datum.now }
+    ensures { result ≡ entry_line_read sizes.now (spans fields.now) }
+{
+    let _l = simple_count(datum);
+    match fields {
+        [i, k, row, col, value] => entry_of(sizes, i, k, row, col, value),
+        _ => Err(miscounted(fields.len())),
+    }
 }
 
 /// `row e_1 .. e_n`.

@@ -38,6 +38,7 @@ pub use laws::accepted_lines_fit;
 pub use line::Line;
 pub use lines::{Fed, Lines};
 pub use names::{Names, NoNames};
+pub use numbers::number_of;
 pub use reading::read_line;
 pub use sizes::{Sizes, Wants};
 pub use texts::{put_number, put_spaced, refusal};

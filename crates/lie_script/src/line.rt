@@ -54,6 +54,45 @@ pub enum Line {
         name: Text,
         v: Numbers,
     },
+    /// The name of a direct sum, and those of its two modules.
+    Sum {
+        name: Text,
+        a: Text,
+        b: Text,
+    },
+    /// The name of a tensor product, and those of its two modules.
+    Tensor {
+        name: Text,
+        a: Text,
+        b: Text,
+    },
+    /// The name of a dual, and that of its module.
+    Dual {
+        name: Text,
+        a: Text,
+    },
+    /// The name of a module by tables, and how many weights and entries are read from the lines behind it.
+    Table {
+        name: Text,
+        n: usize,
+        e: usize,
+    },
+    /// The coordinates of a weight of a table.
+    Weight(Numbers),
+    /// An entry of the matrix of a divided power of `E_i`, or of `E_-i` where `simple` is `-i`. Rows and columns count from 1.
+    Entry {
+        simple: i32,
+        power: u32,
+        row: usize,
+        col: usize,
+        value: i128,
+    },
+    /// The name of a module, a coordinate counted from 1, and a number for each basis vector of the module.
+    Cover {
+        name: Text,
+        axis: usize,
+        c: Numbers,
+    },
     /// The name of a module, and a word.
     Matrix {
         name: Text,

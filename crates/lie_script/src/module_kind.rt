@@ -7,4 +7,12 @@ pub(crate) enum ModuleKind {
     Adjoint,
     /// The module of the orbit of a weight.
     Orbit,
+    /// The direct sum of two modules.
+    Sum,
+    /// The tensor product of two modules.
+    Tensor,
+    /// The dual of a module.
+    Dual,
+    /// A module by its weights and the entries of its matrices, which follow.
+    Table,
 }

@@ -41,7 +41,7 @@ fn value_of(digits: &[u8]) -> u64
 
 /// The number that 1 to 18 digits spell.
 #[tactic(auto, unfolding(crate::specs::Numbers::number_of))]
-pub(crate) fn number_of(bytes: &[u8]) -> Option<u64>
+pub fn number_of(bytes: &[u8]) -> Option<u64>
     ensures number { result ≡ number_spelled bytes.now }
     ensures bound { IfSome result (λ n. n < 10 ^ 18) }
 {
@@ -93,7 +93,9 @@ impl Allowed {
     {
         match self {
             Allowed::Within(low, high) => low <= n && n <= high,
+            Allowed::NonzeroWithin(low, high) => low <= n && n <= high && n.unsigned_abs() != 0,
             Allowed::SimpleOf(l) => 1 <= n && n <= l as i128,
+            Allowed::SignedSimpleOf(l) => 1 <= n.unsigned_abs() && n.unsigned_abs() <= l as u128,
             Allowed::RootOf(m) => 1 <= n.unsigned_abs() && n.unsigned_abs() <= m as u128,
             Allowed::ElementOf(q) => 0 <= n && n < q as i128,
         }
@@ -104,7 +106,8 @@ impl Allowed {
     {
         match self {
             Allowed::Within(_, _) => FaultName::Range,
-            Allowed::SimpleOf(_) => FaultName::Simple,
+            Allowed::NonzeroWithin(_, _) => FaultName::Range,
+            Allowed::SimpleOf(_) | Allowed::SignedSimpleOf(_) => FaultName::Simple,
             Allowed::RootOf(_) => FaultName::Root,
             Allowed::ElementOf(_) => FaultName::Value,
         }

@@ -12,12 +12,12 @@ use crate::fields::{LineField, fields, foreign_column};
 use crate::kept::Numbers;
 use crate::keyword::{Keyword, keyword_of};
 use crate::kinds::{
-    bare_line, constant_line, coroot_line, datum_line, field_line, root_line, row_line, weyl_line,
-    word_line,
+    bare_line, constant_line, coroot_line, datum_line, entry_line, field_line, root_line, row_line,
+    weight_line, weyl_line, word_line,
 };
 use crate::letters::two_words;
 use crate::line::Line;
-use crate::modules::{matrix_line, module_line, reduce_line};
+use crate::modules::{cover_line, matrix_line, module_line, reduce_line};
 use crate::names::Names;
 use crate::sizes::{Sizes, Wants};
 use lie_datum::Datum;
@@ -92,6 +92,12 @@ fn own_line<N: Names>(
         }
         Keyword::Weyl => weyl_line(alloc, sizes, spelled),
         Keyword::Module => module_line(alloc, sizes, names, spelled),
+        Keyword::Weight => weight_line(alloc, sizes, spelled),
+        Keyword::Entry => {
+            let (_field, datum) = both(field, datum);
+            Ok(entry_line(sizes, datum, spelled)?)
+        }
+        Keyword::Cover => cover_line(alloc, sizes, names, spelled),
         Keyword::Matrix => {
             let (field, datum) = both(field, datum);
             matrix_line(alloc, sizes, names, field, datum, spelled)
@@ -195,7 +201,7 @@ fn line_fault(alloc: Global, fault: Fault) -> Result<LineFault, AllocError>
 /// What a line says, or its first failing check.
 ///
 /// The line comes without its end. The sizes are those of the field and the datum that are handed
-/// in, and both are handed in where a group is loaded or `load` is awaited.
+/// in, and both are handed in where a group is loaded, or `load` or `entry` is awaited.
 pub fn read_line<N: Names>(
     alloc: Global,
     line: &[u8],

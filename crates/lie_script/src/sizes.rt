@@ -10,6 +10,10 @@ pub enum Wants {
     /// `load`, or `collect` before it.
     Load,
     Command,
+    /// A weight of a `module .. table` line.
+    Weight,
+    /// An entry of a `module .. table` line.
+    Entry,
     /// A row of the matrix of a `reduce` line.
     Row,
 }

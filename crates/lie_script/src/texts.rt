@@ -43,6 +43,7 @@ impl FaultName {
             FaultName::Unknown => b"unknown".as_slice(),
             FaultName::Taken => b"taken".as_slice(),
             FaultName::Full => b"full".as_slice(),
+            FaultName::Sum => b"sum".as_slice(),
             FaultName::Outside => b"outside".as_slice(),
             FaultName::Size => b"size".as_slice(),
             FaultName::End => b"end".as_slice(),

@@ -2,8 +2,10 @@
 use Rattle.std.proofs.Common.{◌≡◌, Bool, true, false, List, ℕ, Result, Ok, Err, refl, sym, subst, inl, inr}
 use Rattle.std.specs.Prelude.{◌↔◌, IfOk, IsTrue, Option}
 use Rattle.std.proofs.lemmas.Bool.{false≢true}
+use Rattle.lie_datum.specs.RootList.{RootDatum}
 use Rattle.lie_group.specs.Groups.{GroupData, IsGroup}
 use Rattle.lie_group.proofs.GroupLemmas.{carrier_meets}
+use Rattle.lie_identities.specs.CoverLines.{AreCoverLines}
 use Rattle.lie_letters.specs.GroupSpelled.{JoinedInGroup}
 use Rattle.lie_letters.specs.SignedFrames.{SignedFrame}
 use Rattle.lie_letters.specs.declared.letter.Letter.{Letter}
@@ -25,7 +27,13 @@ text_of f x w (Err e) stands tells = tt
 
 -- the carrier of a group is covering and audited for its frame
 pub covering_group : (g : GroupData) → IsGroup g → IsCoveringFor g.frame g.carrier.module
-covering_group g h = record { lawful = h.frame.lawful; audited = carrier_meets g h; covering = h.covering }
+covering_group g h = record {
+  lawful = h.frame.lawful;
+  audited = carrier_meets g h;
+  lines = g.carrier.lines;
+  cover = subst (λ (D : RootDatum). AreCoverLines D g.carrier.module g.carrier.lines) h.carrier.audited_for.datum h.carrier.audited.cover;
+  covering = h.covering;
+}
 
 told_same : (f : SignedFrame) (x y : FormData) (w v : List Letter) (b : Bool) (text : List ℕ) → JoinedInGroup f w v ↔ (x ≡ y) → IsTrue b ↔ (x ≡ y) → text ≡ same_text b → TellsSame f w v text
 told_same f x y w v true text joined same is = inl (joined.1 (same.0 refl), is)

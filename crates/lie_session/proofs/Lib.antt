@@ -4,6 +4,7 @@ pub mod InputLemmas
 pub mod StageLemmas
 pub mod RowLemmas
 mod NamedLemmas
+pub mod CoverLemmas
 pub mod ChangeLemmas
 pub mod StatusLemmas
 pub mod LoadedLemmas
@@ -11,6 +12,8 @@ pub mod GroupLemmas
 pub mod BlockLemmas
 pub mod OneWordLemmas
 pub mod OneReduction
+pub mod MadeLemmas
+pub mod TableLemmas
 pub mod PrintedLemmas
 pub mod ReducedLemmas
 pub mod OneOutcome

@@ -2,7 +2,7 @@
 use Rattle.std.proofs.Common.{◌≡◌, ◌≢◌, ℕ, Bool, true, false, List, [], ◌++◌, Option, Some, None, Result, Ok, Err, refl, sym, ap, ◌∙◌, subst, ◌⊎◌, inl, inr}
 use Rattle.std.specs.Prelude.{⊤, MatchOption, ℤ, map, nat_abs}
 use Rattle.std.specs.Bool.{MatchBool}
-use Rattle.std.specs.Option.{IfSome, IsSome}
+use Rattle.std.specs.Option.{IfSome, IsSome, option_map}
 use Rattle.std.proofs.lemmas.Bool.{false≢true}
 use Rattle.lie_audit.specs.WordMatrix.{word_matrix}
 use Rattle.lie_audit.proofs.OneAdjointLemmas.{one_adjoint}
@@ -45,22 +45,31 @@ use Rattle.lie_script.specs.Accepted.{Fits}
 use Rattle.lie_script.specs.declared.line.Line.{Line}
 use Rattle.lie_script.specs.declared.line.Line.TheVariants as line
 use Rattle.lie_script.specs.declared.sizes.Wants.TheVariants as wants
+use Rattle.lie_weight.specs.Duals.{IsDual}
 use Rattle.lie_weight.specs.OrbitFaults.{LoadsOrbit}
+use Rattle.lie_weight.specs.Sums.{LoadsSum}
+use Rattle.lie_weight.specs.Tensors.{LoadsTensor}
 use Rattle.lie_weight.specs.declared.faults.ModuleFault.{ModuleFault}
 use Rattle.lie_weight.specs.declared.faults.ModuleFault.TheVariants as orbit_fault
+use Rattle.lie_weight.proofs.OneAnswers.{one_sum_answer, one_tensor_answer, one_dual}
 use Rattle.lie_weight.proofs.OneOrbitAnswer.{one_answer as one_orbit}
+use Rattle.lie_weight.proofs.OneTableAnswer.{one_answer as one_table}
 use Rattle.lie_session.specs.DatumLines.{DatumLines, opened, padded, with_root, with_coroot, is_whole, base_of}
 use Rattle.lie_session.specs.Faults.{field_words, datum_words, load_words, module_words, audit_words, words_of}
-use Rattle.lie_session.specs.Held.{Setting, Block, LoadedGroup, begun, with_row, without_block, IsBlockOf}
+use Rattle.lie_session.specs.Blocks.{Rows, TableLines, begun, with_row, opened_table, with_weight, with_entry, is_whole_table}
+use Rattle.lie_session.specs.Held.{Setting, LoadedGroup, without_block, rows_in, table_in, AreRowsOf, IsBlockOf}
+use Rattle.lie_session.specs.declared.block.Block.{Block}
+use Rattle.lie_session.specs.declared.block.Block.TheVariants as block
 use Rattle.lie_session.specs.Loaded.{HasGroup}
-use Rattle.lie_session.specs.Named.{Named, module_of, listed_of}
-use Rattle.lie_session.specs.Outcomes.{Outcome, quiet, answered, field_outcome, datum_outcome, group_outcome, audit_outcome, cover_outcome, reduced_outcome, with_module, is_full, matrix_of, KeepsDatum, PrintsForm, CollectsBy, LoadsBy, NamesModule, NamesMade, ReducesTo, GoesOn, Leads}
+use Rattle.lie_session.specs.Named.{NamedModule, Named, named_at, module_of, listed_of}
+use Rattle.lie_session.specs.Outcomes.{Outcome, quiet, answered, field_outcome, datum_outcome, group_outcome, audit_outcome, cover_outcome, reduced_outcome, with_module, is_full, matrix_of, KeepsDatum, PrintsForm, CollectsBy, LoadsBy, NamesModule, NamesMade, NamesTable, ReadsTable, ReducesTo, GoesOn, Leads}
 use Rattle.lie_session.specs.declared.faults.CallFault.TheVariants as call
 use Rattle.lie_session.specs.State.{field_of, datum_of, modules_of, wants_of, sizes_of}
 use Rattle.lie_session.specs.declared.faults.CallFault.TheVariants as call
 use Rattle.lie_session.specs.declared.stage.Stage.{Stage}
 use Rattle.lie_session.specs.declared.stage.Stage.TheVariants as stage
-use Rattle.lie_session.proofs.LoadedLemmas.{IsReached, met_of_name, module_is}
+use Rattle.lie_session.proofs.LoadedLemmas.{IsReached, met_of_name, lines_of_name, module_is}
+use Rattle.lie_session.proofs.NamedLemmas.{alone, module_at}
 use Rattle.lie_session.proofs.OneReduction.{one_cover, one_reduction}
 use Rattle.lie_session.proofs.OneWordLemmas.{with_constants, one_text, one_same_text, word_read}
 
@@ -327,6 +336,27 @@ module _ (g : LoadedGroup) (c : ConstantTable) (table : IsSameTable g.frame.datu
   made_once name (Ok v) r q a b x y = module_once name v r q a b x y
   made_once name (Err why) r q a b x y = by_both (stage.Loaded g) said r q (Err (call.Module why)) (Err (call.Module why)) x y refl
 
+  -- two modules make one module
+  two_once : (Makes : RootDatum → Module → Module → ModuleAnswer → Type 0)
+      → ((v w : Module) (x y : ModuleAnswer) → Makes g.frame.datum v w x → Makes g.frame.datum v w y → ◌≢◌ {A = ModuleAnswer} x (Err orbit_fault.NoMemory) → ◌≢◌ {A = ModuleAnswer} y (Err orbit_fault.NoMemory) → x ≡ y)
+      → (name : List ℕ) (o p : Option Module) (r q : Outcome) → IsTold r → IsTold q
+      → MatchOption o (r ≡ quiet (stage.Loaded g)) (λ v. MatchOption p (r ≡ quiet (stage.Loaded g)) (λ w. (x : ModuleAnswer) × Makes g.frame.datum v w x × NamesMade g name x r))
+      → MatchOption o (q ≡ quiet (stage.Loaded (with_constants g c))) (λ v. MatchOption p (q ≡ quiet (stage.Loaded (with_constants g c))) (λ w. (x : ModuleAnswer) × Makes g.frame.datum v w x × NamesMade (with_constants g c) name x q))
+      → IsSameOutcome (stage.Loaded g) said r q
+  two_once Makes one name None p r q a b x y = same_quiet r q x y
+  two_once Makes one name (Some v) None r q a b x y = same_quiet r q x y
+  two_once Makes one name (Some v) (Some w) r q a b x y =
+      let is = one v w y.0 x.0 y.1 x.1 (made_told (with_constants g c) name y.0 q y.2 b) (made_told g name x.0 r x.2 a) in
+      made_once name x.0 r q a b x.2 (subst (λ z. NamesMade (with_constants g c) name z q) is y.2)
+
+  -- a module has one dual
+  dual_once : (name : List ℕ) (o : Option Module) (r q : Outcome) → IsTold r → IsTold q
+      → MatchOption o (r ≡ quiet (stage.Loaded g)) (λ v. (w : Module) × IsDual g.frame.datum v w × NamesModule g name w r)
+      → MatchOption o (q ≡ quiet (stage.Loaded (with_constants g c))) (λ v. (w : Module) × IsDual g.frame.datum v w × NamesModule (with_constants g c) name w q) → IsSameOutcome (stage.Loaded g) said r q
+  dual_once name None r q a b x y = same_quiet r q x y
+  dual_once name (Some v) r q a b x y =
+      module_once name x.0 r q a b x.2 (subst (λ (w : Module). NamesModule (with_constants g c) name w q) (one_dual g.frame.datum v y.0 x.0 y.1 x.1) y.2)
+
   matrix_once : (text : Module → List ℕ) (o : Option Module) (r q : Outcome) → MatchOption o (r ≡ quiet (stage.Loaded g)) (λ v. r ≡ answered (stage.Loaded g) (text v))
       → MatchOption o (q ≡ quiet (stage.Loaded (with_constants g c))) (λ v. q ≡ answered (stage.Loaded (with_constants g c)) (text v)) → IsSameOutcome (stage.Loaded g) said r q
   matrix_once text None r q a b = same_quiet r q a b
@@ -339,17 +369,17 @@ module _ (g : LoadedGroup) (c : ConstantTable) (table : IsSameTable g.frame.datu
 
   -- the first fault of a module that does not cover is one
   cover_same : (name : List ℕ) (x : Result ⊤ CoverFault) → IsSameOutcome (stage.Loaded g) said (cover_outcome g name x) (cover_outcome (with_constants g c) name x)
-  cover_same name (Ok u) = (groups (record g { block = Some (begun name) }) c table, tt)
+  cover_same name (Ok u) = (groups (record g { block = Some (block.Rows (begun name)) }) c table, tt)
   cover_same name (Err why) = refl
 
-  begin_once : (name : List ℕ) (o : Option Module) (r q : Outcome)
-      → MatchOption o (r ≡ quiet (stage.Loaded g)) (λ v. (x : Result ⊤ CoverFault) × Covers g.frame.field g.frame.datum v x × (r ≡ cover_outcome g name x))
-      → MatchOption o (q ≡ quiet (stage.Loaded (with_constants g c))) (λ v. (x : Result ⊤ CoverFault) × Covers g.frame.field g.frame.datum v x × (q ≡ cover_outcome (with_constants g c) name x))
+  begin_once : (name : List ℕ) (o : Option NamedModule) (r q : Outcome)
+      → MatchOption o (r ≡ quiet (stage.Loaded g)) (λ v. (x : Result ⊤ CoverFault) × Covers g.frame.field g.frame.datum v.module v.lines x × (r ≡ cover_outcome g name x))
+      → MatchOption o (q ≡ quiet (stage.Loaded (with_constants g c))) (λ v. (x : Result ⊤ CoverFault) × Covers g.frame.field g.frame.datum v.module v.lines x × (q ≡ cover_outcome (with_constants g c) name x))
       → IsSameOutcome (stage.Loaded g) said r q
   begin_once name None r q a b = same_quiet r q a b
   begin_once name (Some v) r q a b =
       by_both (stage.Loaded g) said r q (cover_outcome g name a.0) (cover_outcome (with_constants g c) name b.0) a.2 b.2
-      (subst (λ z. IsSameOutcome (stage.Loaded g) said (cover_outcome g name a.0) (cover_outcome (with_constants g c) name z)) (one_cover g.frame.field g.frame.datum v a.0 b.0 a.1 b.1) (cover_same name a.0))
+      (subst (λ z. IsSameOutcome (stage.Loaded g) said (cover_outcome g name a.0) (cover_outcome (with_constants g c) name z)) (one_cover g.frame.field g.frame.datum v.module v.lines a.0 b.0 a.1 b.1) (cover_same name a.0))
 
   -- a matrix is reduced to one text, or to none
   reduced_same : (t u : Option (List ℕ)) → t ≡ u → IsSameOutcome (stage.Loaded g) said (reduced_outcome g t) (reduced_outcome (with_constants g c) u)
@@ -358,37 +388,93 @@ module _ (g : LoadedGroup) (c : ConstantTable) (table : IsSameTable g.frame.datu
     itself (Some text) = (groups (without_block g) c table, inl refl)
     itself None = refl
 
-  -- a block that a row has joined is kept, or its matrix is reduced
-  goes_once : HasGroup g → HasGroup (with_constants g c) → (b : Block) (v : Module) (full : Bool) (r q : Outcome) → MeetsFrame g.frame v → MeetsFrame (with_constants g c).frame v
-      → IsCovering g.frame.field g.frame.datum v
-      → MatchBool full (ReducesTo g v (matrix_of (dimension v) b.rows) r) (r ≡ quiet (stage.Loaded (record g { block = Some b })))
-      → MatchBool full (ReducesTo (with_constants g c) v (matrix_of (dimension v) b.rows) q) (q ≡ quiet (stage.Loaded (record (with_constants g c) { block = Some b })))
+  -- rows that one has joined are kept, or their matrix is reduced
+  goes_once : HasGroup g → HasGroup (with_constants g c) → (b : Rows) (name : List ℕ) (v : NamedModule) → named_at g.modules name ≡ Some v → IsCovering g.frame.field g.frame.datum v.module v.lines
+      → (full : Bool) (r q : Outcome)
+      → MatchBool full (ReducesTo g v.module (matrix_of (dimension v.module) b.rows) r) (r ≡ quiet (stage.Loaded (record g { block = Some (block.Rows b) })))
+      → MatchBool full (ReducesTo (with_constants g c) v.module (matrix_of (dimension v.module) b.rows) q) (q ≡ quiet (stage.Loaded (record (with_constants g c) { block = Some (block.Rows b) })))
       → IsSameOutcome (stage.Loaded g) said r q
-  goes_once there here b v true r q meets other_meets covers x y =
+  goes_once there here b name v is covers true r q x y =
+      let there_is = module_at g.modules name v is in
+      let meets = met_of_name g there name v.module there_is in
+      let other_meets = met_of_name (with_constants g c) here name v.module there_is in
       by_both (stage.Loaded g) said r q (reduced_outcome g x.0) (reduced_outcome (with_constants g c) y.0) x.2 y.2
-      (reduced_same x.0 y.0 (one_reduction g c there here v (matrix_of (dimension v) b.rows) meets other_meets covers x.0 y.0 x.1 y.1))
-  goes_once there here b v false r q meets other_meets covers x y =
-      by_both (stage.Loaded g) said r q (quiet (stage.Loaded (record g { block = Some b }))) (quiet (stage.Loaded (record (with_constants g c) { block = Some b }))) x y
-      (groups (record g { block = Some b }) c table, tt)
+      (reduced_same x.0 y.0
+      (one_reduction g c there here v.module (matrix_of (dimension v.module) b.rows) meets other_meets v.lines (lines_of_name g name v there is) covers x.0 y.0 x.1 y.1))
+  goes_once there here b name v is covers false r q x y =
+      by_both (stage.Loaded g) said r q (quiet (stage.Loaded (record g { block = Some (block.Rows b) }))) (quiet (stage.Loaded (record (with_constants g c) { block = Some (block.Rows b) }))) x y
+      (groups (record g { block = Some (block.Rows b) }) c table, tt)
 
   row_once : HasGroup g → HasGroup (with_constants g c) → (row : List ℤ) (o : Option Block) (r q : Outcome) → g.block ≡ o
-      → MatchOption o (r ≡ quiet (stage.Loaded g)) (λ b. MatchOption (module_of g.modules b.name) (r ≡ quiet (stage.Loaded g)) (λ v. GoesOn g v (with_row b row) r))
-      → MatchOption o (q ≡ quiet (stage.Loaded (with_constants g c))) (λ b. MatchOption (module_of g.modules b.name) (q ≡ quiet (stage.Loaded (with_constants g c))) (λ v. GoesOn (with_constants g c) v (with_row b row) q))
+      → MatchOption (rows_in o) (r ≡ quiet (stage.Loaded g)) (λ b. MatchOption (module_of g.modules b.name) (r ≡ quiet (stage.Loaded g)) (λ v. GoesOn g v (with_row b row) r))
+      → MatchOption (rows_in o) (q ≡ quiet (stage.Loaded (with_constants g c))) (λ b. MatchOption (module_of g.modules b.name) (q ≡ quiet (stage.Loaded (with_constants g c))) (λ v. GoesOn (with_constants g c) v (with_row b row) q))
       → IsSameOutcome (stage.Loaded g) said r q
   row_once there here row None r q at x y = same_quiet r q x y
-  row_once there here row (Some b) r q at x y = by_module (module_of g.modules b.name) refl x y where
-    block_is : IsBlockOf g.frame g.modules b
+  row_once there here row (Some (block.Table t)) r q at x y = same_quiet r q x y
+  row_once there here row (Some (block.Rows b)) r q at x y = by_module (named_at g.modules b.name) refl x y where
+    block_is : AreRowsOf g.frame g.modules b
     block_is = subst (λ (o : Option Block). IfSome o (IsBlockOf g.frame g.modules)) at there.block
 
-    by_module : (o : Option Module) → module_of g.modules b.name ≡ o
-        → MatchOption o (r ≡ quiet (stage.Loaded g)) (λ v. GoesOn g v (with_row b row) r)
-        → MatchOption o (q ≡ quiet (stage.Loaded (with_constants g c))) (λ v. GoesOn (with_constants g c) v (with_row b row) q) → IsSameOutcome (stage.Loaded g) said r q
+    by_module : (o : Option NamedModule) → named_at g.modules b.name ≡ o
+        → MatchOption (option_map alone o) (r ≡ quiet (stage.Loaded g)) (λ v. GoesOn g v (with_row b row) r)
+        → MatchOption (option_map alone o) (q ≡ quiet (stage.Loaded (with_constants g c))) (λ v. GoesOn (with_constants g c) v (with_row b row) q) → IsSameOutcome (stage.Loaded g) said r q
     by_module None is x y = same_quiet r q x y
     by_module (Some v) is x y =
-        goes_once there here (with_row b row) v (is_full v (with_row b row)) r q (met_of_name g there b.name v is) (met_of_name (with_constants g c) here b.name v is)
-        (subst (IsCovering g.frame.field g.frame.datum) (module_is g b v block_is is) block_is.covering) x y
+        goes_once there here (with_row b row) b.name v is
+        (subst (λ (u : NamedModule). IsCovering g.frame.field g.frame.datum u.module u.lines) (module_is g b v block_is is) block_is.covering) (is_full v.module (with_row b row)) r q x y
 
--- commands, and rows of blocks
+-- ---- tables
+
+-- where two stages have one field and one datum, what is alike at the one is at the other
+texts_there : (at to : Stage) (said : Line) → field_of at ≡ field_of to → datum_of at ≡ datum_of to → (t u : Option (List ℕ)) → AreAlikeTexts at said t u → AreAlikeTexts to said t u
+texts_there at to said field datum None None h = tt
+texts_there at to said field datum None (Some u) h = absurd h
+texts_there at to said field datum (Some t) None h = absurd h
+texts_there at to said field datum (Some t) (Some u) (inl same) = inl same
+texts_there at to said field datum (Some t) (Some u) (inr h) = inr (record {
+  word = h.word;
+  says = h.says;
+  frame = h.frame;
+  other = h.other;
+  field_is = sym field ∙ h.field_is;
+  datum_is = sym datum ∙ h.datum_is;
+  same = h.same;
+  left = h.left;
+  right = h.right;
+})
+
+outcome_there : (at to : Stage) (said : Line) → field_of at ≡ field_of to → datum_of at ≡ datum_of to → (r q : Outcome) → IsSameOutcome at said r q → IsSameOutcome to said r q
+outcome_there at to said field datum (Ok x) (Ok y) h = (h.0, texts_there at to said field datum x.1 y.1 h.1)
+outcome_there at to said field datum (Ok x) (Err why) h = absurd h
+outcome_there at to said field datum (Err why) (Ok y) h = absurd h
+outcome_there at to said field datum (Err why) (Err other) h = h
+
+module _ (g : LoadedGroup) (c : ConstantTable) (table : IsSameTable g.frame.datum g.frame.constants c) (said : Line) (loaded : IsLoaded g.frame.datum) where
+  -- a table is kept
+  table_kept : (t : TableLines) (r q : Outcome) → r ≡ quiet (stage.Loaded (record g { block = Some (block.Table t) }))
+      → q ≡ quiet (stage.Loaded (record (with_constants g c) { block = Some (block.Table t) })) → IsSameOutcome (stage.Loaded g) said r q
+  table_kept t r q x y =
+      by_both (stage.Loaded g) said r q (quiet (stage.Loaded (record g { block = Some (block.Table t) }))) (quiet (stage.Loaded (record (with_constants g c) { block = Some (block.Table t) }))) x y
+      (groups (record g { block = Some (block.Table t) }) c table, tt)
+
+  -- a table that a line has joined is kept, or its module is named
+  table_once : (t : TableLines) (whole : Bool) (r q : Outcome) → IsTold r → IsTold q
+      → MatchBool whole (NamesTable g t r) (r ≡ quiet (stage.Loaded (record g { block = Some (block.Table t) })))
+      → MatchBool whole (NamesTable (with_constants g c) t q) (q ≡ quiet (stage.Loaded (record (with_constants g c) { block = Some (block.Table t) }))) → IsSameOutcome (stage.Loaded g) said r q
+  table_once t true r q a b x y =
+      let is = one_table g.frame.datum (eta_of g.frame.signs) t.weights t.entries y.0 x.0 loaded y.1 x.1 (made_told (without_block (with_constants g c)) t.name y.0 q y.2 b) (made_told (without_block g) t.name x.0 r x.2 a) in
+      outcome_there (stage.Loaded (without_block g)) (stage.Loaded g) said refl refl r q
+      (made_once (without_block g) c table said t.name x.0 r q a b x.2 (subst (λ z. NamesMade (without_block (with_constants g c)) t.name z q) is y.2))
+  table_once t false r q a b x y = table_kept t r q x y
+
+  -- a line joins the table that is read
+  line_once : (grow : TableLines → TableLines) (o : Option TableLines) (r q : Outcome) → IsTold r → IsTold q
+      → MatchOption o (r ≡ quiet (stage.Loaded g)) (λ t. ReadsTable g (grow t) r)
+      → MatchOption o (q ≡ quiet (stage.Loaded (with_constants g c))) (λ t. ReadsTable (with_constants g c) (grow t) q) → IsSameOutcome (stage.Loaded g) said r q
+  line_once grow None r q a b x y = same_quiet g c table said r q x y
+  line_once grow (Some t) r q a b x y = table_once (grow t) (is_whole_table (grow t)) r q a b x y
+
+-- commands, and lines of blocks
 loaded_once : (g : LoadedGroup) (c : ConstantTable) → IsSameTable g.frame.datum g.frame.constants c → (said : Line) (r q : Outcome) → HasGroup g → HasGroup (with_constants g c)
     → Fits (wants_of (stage.Loaded g)) (sizes_of (stage.Loaded g)) (listed_of g.modules) said → IsTold r → IsTold q
     → Leads (stage.Loaded g) said r → Leads (stage.Loaded (with_constants g c)) said q → IsSameOutcome (stage.Loaded g) said r q
@@ -405,9 +491,20 @@ loaded_once g c table (line.Adjoint name) r q there here fits a b x y =
 loaded_once g c table (line.Orbit name w) r q there here fits a b x y =
     let is = one_orbit g.frame.datum (eta_of g.frame.signs) (padded w) y.0 x.0 there.frame.lawful.lawful.loaded y.1 x.1 (made_told (with_constants g c) name y.0 q y.2 b) (made_told g name x.0 r x.2 a) in
     made_once g c table (line.Orbit name w) name x.0 r q a b x.2 (subst (λ z. NamesMade (with_constants g c) name z q) is y.2)
+loaded_once g c table (line.Sum name m n) r q there here fits a b x y =
+    two_once g c table (line.Sum name m n) LoadsSum (one_sum_answer g.frame.datum) name (module_of g.modules m) (module_of g.modules n) r q a b x y
+loaded_once g c table (line.Tensor name m n) r q there here fits a b x y =
+    two_once g c table (line.Tensor name m n) LoadsTensor (one_tensor_answer g.frame.datum) name (module_of g.modules m) (module_of g.modules n) r q a b x y
+loaded_once g c table (line.Dual name m) r q there here fits a b x y = dual_once g c table (line.Dual name m) name (module_of g.modules m) r q a b x y
+loaded_once g c table (line.Table name n e) r q there here fits a b x y = table_kept g c table (line.Table name n e) there.frame.lawful.lawful.loaded (opened_table name n e) r q x y
+loaded_once g c table (line.Weight v) r q there here fits a b x y =
+    line_once g c table (line.Weight v) there.frame.lawful.lawful.loaded (λ t. with_weight t v) (table_in g.block) r q a b x y
+loaded_once g c table (line.Entry simple power row col value) r q there here fits a b x y =
+    line_once g c table (line.Entry simple power row col value) there.frame.lawful.lawful.loaded (λ t. with_entry t (record { simple = simple; power = power; row = row; col = col; value = value }))
+    (table_in g.block) r q a b x y
 loaded_once g c table (line.Matrix name w) r q there here fits a b x y =
     matrix_once g c table (line.Matrix name w) (λ v. matrix_text (word_matrix g.frame.field v w)) (module_of g.modules name) r q x y
-loaded_once g c table (line.Reduce name) r q there here fits a b x y = begin_once g c table (line.Reduce name) name (module_of g.modules name) r q x y
+loaded_once g c table (line.Reduce name) r q there here fits a b x y = begin_once g c table (line.Reduce name) name (named_at g.modules name) r q x y
 loaded_once g c table (line.Row row) r q there here fits a b x y = row_once g c table (line.Row row) there here row g.block r q refl x y
 loaded_once g c table said r q there here fits a b x y = same_quiet g c table said r q x y
 

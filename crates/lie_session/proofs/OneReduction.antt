@@ -10,7 +10,8 @@ use Rattle.lie_const.specs.Modules.{Module}
 use Rattle.lie_datum.specs.RootList.{RootDatum}
 use Rattle.lie_field.specs.FiniteField.{FiniteField}
 use Rattle.lie_group.specs.Groups.{MeetsFrame}
-use Rattle.lie_identities.specs.Covers.{IsLive, IsLiveAt, IsCovered, IsCovering, IsFirstDead, IsFirstUncovered, IsCoverFault, Covers}
+use Rattle.lie_identities.specs.CoverLines.{CoverLines, AreCoverLines}
+use Rattle.lie_identities.specs.Covers.{IsLive, IsLiveAt, IsCovering, IsFirstDead, IsFirstUncovered, IsCoverFault, Covers}
 use Rattle.lie_identities.specs.declared.covering.CoverFault.{CoverFault}
 use Rattle.lie_identities.specs.declared.covering.CoverFault.TheVariants.{Dead, Uncovered}
 use Rattle.lie_letters.specs.SignedFrames.{SignedFrame, unsigned, IsLawfulSigned}
@@ -42,8 +43,8 @@ one_dead F D v r s p q = elim (cases_lt p.k q.k) [
 live_not_dead : (F : FiniteField) (D : RootDatum) (v : Module) (r : ℤ) → IsLive F D v → IsFirstDead F D v r → ⊥
 live_not_dead F D v r live p = p.dead (subst (IsLiveAt F v) (sym p.number) (live p.k p.first p.last))
 
-one_uncovered : (D : RootDatum) (v : Module) (i j : ℕ) → IsFirstUncovered D v i → IsFirstUncovered D v j → i ≡ j
-one_uncovered D v i j p q = elim (cases_lt i j) [
+one_uncovered : (D : RootDatum) (v : Module) (lines : CoverLines) (i j : ℕ) → IsFirstUncovered D v lines i → IsFirstUncovered D v lines j → i ≡ j
+one_uncovered D v lines i j p q = elim (cases_lt i j) [
   | inl l ↦ absurd (p.uncovered (q.before i p.first l))
   | inr g ↦ elim (cases_lt j i) [
     | inl l ↦ absurd (q.uncovered (p.before j q.first l))
@@ -51,25 +52,25 @@ one_uncovered D v i j p q = elim (cases_lt i j) [
   ]
 ]
 
-covers_no_fault : (F : FiniteField) (D : RootDatum) (v : Module) (why : CoverFault) → IsCovering F D v → IsCoverFault F D v why → ⊥
-covers_no_fault F D v (Dead r) covers p = live_not_dead F D v r covers.live p
-covers_no_fault F D v (Uncovered j) covers p = p.1.uncovered (covers.axes j p.1.first p.1.last)
+covers_no_fault : (F : FiniteField) (D : RootDatum) (v : Module) (lines : CoverLines) (why : CoverFault) → IsCovering F D v lines → IsCoverFault F D v lines why → ⊥
+covers_no_fault F D v lines (Dead r) covers p = live_not_dead F D v r covers.live p
+covers_no_fault F D v lines (Uncovered j) covers p = p.1.uncovered (covers.axes j p.1.first p.1.last)
 
-one_fault : (F : FiniteField) (D : RootDatum) (v : Module) (why other : CoverFault) → IsCoverFault F D v why → IsCoverFault F D v other → why ≡ other
-one_fault F D v (Dead r) (Dead s) p q = ap Dead (one_dead F D v r s p q)
-one_fault F D v (Dead r) (Uncovered j) p q = absurd (live_not_dead F D v r q.0 p)
-one_fault F D v (Uncovered i) (Dead s) p q = absurd (live_not_dead F D v s p.0 q)
-one_fault F D v (Uncovered i) (Uncovered j) p q = ap Uncovered (one_uncovered D v i j p.1 q.1)
+one_fault : (F : FiniteField) (D : RootDatum) (v : Module) (lines : CoverLines) (why other : CoverFault) → IsCoverFault F D v lines why → IsCoverFault F D v lines other → why ≡ other
+one_fault F D v lines (Dead r) (Dead s) p q = ap Dead (one_dead F D v r s p q)
+one_fault F D v lines (Dead r) (Uncovered j) p q = absurd (live_not_dead F D v r q.0 p)
+one_fault F D v lines (Uncovered i) (Dead s) p q = absurd (live_not_dead F D v s p.0 q)
+one_fault F D v lines (Uncovered i) (Uncovered j) p q = ap Uncovered (one_uncovered D v lines i j p.1 q.1)
 
 abbrev failed : CoverFault → Result ⊤ CoverFault
 failed why = Err why
 
 -- a module covers, or has one first fault
-pub one_cover : (F : FiniteField) (D : RootDatum) (v : Module) (x y : Result ⊤ CoverFault) → Covers F D v x → Covers F D v y → x ≡ y
-one_cover F D v (Ok u) (Ok t) p q = refl
-one_cover F D v (Ok u) (Err why) p q = absurd (covers_no_fault F D v why p q)
-one_cover F D v (Err why) (Ok u) p q = absurd (covers_no_fault F D v why q p)
-one_cover F D v (Err why) (Err other) p q = ap failed (one_fault F D v why other p q)
+pub one_cover : (F : FiniteField) (D : RootDatum) (v : Module) (lines : CoverLines) (x y : Result ⊤ CoverFault) → Covers F D v lines x → Covers F D v lines y → x ≡ y
+one_cover F D v lines (Ok u) (Ok t) p q = refl
+one_cover F D v lines (Ok u) (Err why) p q = absurd (covers_no_fault F D v lines why p q)
+one_cover F D v lines (Err why) (Ok u) p q = absurd (covers_no_fault F D v lines why q p)
+one_cover F D v lines (Err why) (Err other) p q = ap failed (one_fault F D v lines why other p q)
 
 -- ---- forms with one matrix
 
@@ -93,12 +94,12 @@ form_is_word f v M covers x p none =
     none (form_word x s.0) (form_over f covers.lawful x p.form s.0 s.1) (p.along s.0 s.1)
 
 module _ (g : LoadedGroup) (c : ConstantTable) (there : HasGroup g) (here : HasGroup (with_constants g c)) (v : Module) (M : Matrix ℕ) (meets : MeetsFrame g.frame v)
-    (other_meets : MeetsFrame (with_constants g c).frame v) (covers : IsCovering g.frame.field g.frame.datum v) where
+    (other_meets : MeetsFrame (with_constants g c).frame v) (lines : CoverLines) (are : AreCoverLines g.frame.datum v lines) (covers : IsCovering g.frame.field g.frame.datum v lines) where
   left_covers : IsCoveringFor g.frame v
-  left_covers = record { lawful = there.frame.lawful; audited = meets; covering = covers }
+  left_covers = record { lawful = there.frame.lawful; audited = meets; lines = lines; cover = are; covering = covers }
 
   right_covers : IsCoveringFor (with_constants g c).frame v
-  right_covers = record { lawful = here.frame.lawful; audited = other_meets; covering = covers }
+  right_covers = record { lawful = here.frame.lawful; audited = other_meets; lines = lines; cover = are; covering = covers }
 
   -- a form of the one is a form of the other
   matrix_there : (y : FormData) → HasFormMatrix (with_constants g c).frame v y M → HasFormMatrix g.frame v y M

@@ -6,6 +6,8 @@ use Rattle.lie_audit.proofs.EqualMatricesLemmas.{equal_matrices}
 use Rattle.lie_const.specs.ConstantTables.{ConstantTable}
 use Rattle.lie_datum.specs.RootList.{RootDatum}
 use Rattle.lie_field.specs.FiniteField.{FiniteField}
+use Rattle.lie_identities.specs.CoverLines.{no_lines}
+use Rattle.lie_identities.proofs.LineLemmas.{no_cover_lines}
 use Rattle.lie_letters.specs.GroupSpelled.{JoinedInGroup}
 use Rattle.lie_letters.specs.SignedFrames.{SignedFrame, unsigned}
 use Rattle.lie_letters.specs.Spelled.{IsLetterOver, IsWordOver}
@@ -25,7 +27,7 @@ use Rattle.lie_session.specs.declared.stage.Stage.TheVariants as stage
 
 -- the carrier of a loaded group is covering and audited for its frame
 pub covering_for : (g : LoadedGroup) → HasGroup g → IsCoveringFor g.frame g.carrier
-covering_for g there = record { lawful = there.frame.lawful; audited = there.audited; covering = there.covering }
+covering_for g there = record { lawful = there.frame.lawful; audited = there.audited; lines = no_lines; cover = no_cover_lines g.frame.datum g.carrier; covering = there.covering }
 
 -- a word that was read is one of the group
 pub word_read : (g : LoadedGroup) (w : List Letter) → HasGroup g → IsWordWithin (sizes_of (stage.Loaded g)) w → IsWordOver (unsigned g.frame) w

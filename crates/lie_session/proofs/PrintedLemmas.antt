@@ -1,6 +1,6 @@
 -- The replies to lines that ask for forms.
 use Rattle.std.proofs.Common.{◌≡◌, ℕ, Bool, true, false, cond, List, [], ◌++◌, Option, Some, None, refl, sym, ap, ◌∙◌, subst, ◌⊎◌, inl, inr, Result, Ok, Err}
-use Rattle.std.specs.Prelude.{◌↔◌}
+use Rattle.std.specs.Prelude.{nat_lt, length, ◌↔◌}
 use Rattle.std.specs.Option.{IsSomeAnd}
 use Rattle.std.proofs.lemmas.Result.{IfOk-at_ok}
 use Rattle.lie_audit.specs.WordMatrix.{frame_with}
@@ -24,7 +24,9 @@ use Rattle.lie_script.specs.declared.line.Line.TheVariants as line
 use Rattle.lie_script.specs.declared.sizes.Wants.TheVariants as wants
 use Rattle.lie_script.proofs.CallerLemmas.{accepted-fits}
 use Rattle.lie_session.specs.Asked.{asked_word, TellsSame}
-use Rattle.lie_session.specs.Held.{Setting, Block, LoadedGroup}
+use Rattle.lie_session.specs.Held.{Setting, LoadedGroup}
+use Rattle.lie_session.specs.declared.block.Block.{Block}
+use Rattle.lie_session.specs.declared.block.Block.TheVariants as block
 use Rattle.lie_session.specs.Loaded.{HasGroup}
 use Rattle.lie_session.specs.Named.{listed_of}
 use Rattle.lie_session.specs.Outcomes.{Outcome, answered, PrintsForm, CollectsBy, Leads}
@@ -200,9 +202,14 @@ collect_at (stage.Datum F) k ended n bytes w there fits says = absurd (clash fit
 collect_at (stage.Lines F lines) k ended n bytes w there fits says = absurd (no_load _ fits.0)
 collect_at (stage.Load setting) k ended n bytes w there fits says = collect_from setting there k ended n bytes w says fits
 collect_at (stage.Loaded g) k ended n bytes w there fits says = absurd (clash g.block fits.0) where
+  no_line : (b : Bool) → cond b wants.Weight wants.Entry ≡ wants.Load → ⊥
+  no_line true e = absurd cc
+  no_line false e = absurd cc
+
   clash : (o : Option Block) → block_wants o ≡ wants.Load → ⊥
   clash None e = absurd cc
-  clash (Some b) e = absurd cc
+  clash (Some (block.Rows b)) e = absurd cc
+  clash (Some (block.Table t)) e = absurd (no_line (nat_lt (length t.weights) t.width) e)
 
 -- ---- in each state that a script leads to
 

@@ -1,6 +1,6 @@
 -- The replies to `reduce` and to the rows behind it.
 use Rattle.std.proofs.Common.{◌≡◌, ℕ, Bool, true, false, cond, List, [], Option, Some, None, refl, sym, ap, ◌∙◌, subst, ◌⊎◌, inl, inr, Result, Ok, Err}
-use Rattle.std.specs.Prelude.{⊤, ◌↔◌, ℤ, MatchOption}
+use Rattle.std.specs.Prelude.{⊤, ◌↔◌, ℤ, MatchOption, length, nat_lt}
 use Rattle.std.specs.Bool.{MatchBool}
 use Rattle.std.specs.List.{All}
 use Rattle.std.specs.Option.{IfSome}
@@ -30,9 +30,12 @@ use Rattle.lie_script.specs.declared.sizes.Wants.TheVariants as wants
 use Rattle.lie_script.proofs.CallerLemmas.{accepted-fits}
 use Rattle.lie_unip.specs.Forms.{FormData, IsFormOf, form_word}
 use Rattle.lie_session.specs.Faults.{cover_words, words_of}
-use Rattle.lie_session.specs.Held.{Block, LoadedGroup, begun, with_row, without_block, IsBlockOf}
+use Rattle.lie_session.specs.Blocks.{Rows, begun, with_row}
+use Rattle.lie_session.specs.Held.{LoadedGroup, without_block, rows_in, AreRowsOf, IsBlockOf}
+use Rattle.lie_session.specs.declared.block.Block.{Block}
+use Rattle.lie_session.specs.declared.block.Block.TheVariants as block
 use Rattle.lie_session.specs.Loaded.{HasGroup}
-use Rattle.lie_session.specs.Named.{module_of, listed_of}
+use Rattle.lie_session.specs.Named.{NamedModule, named_at, module_of, listed_of}
 use Rattle.lie_session.specs.Outcomes.{Outcome, quiet, answered, cover_outcome, reduced_outcome, is_full, matrix_of, TellsReduction, ReducesTo, GoesOn, BeginsBlock, ReadsRow}
 use Rattle.lie_session.specs.Output.{RepliesTo}
 use Rattle.lie_session.specs.Printed.{Prints}
@@ -44,7 +47,8 @@ use Rattle.lie_session.specs.declared.mode.Mode.{Mode}
 use Rattle.lie_session.specs.declared.reply.Reply.{Reply}
 use Rattle.lie_session.specs.declared.stage.Stage.{Stage}
 use Rattle.lie_session.specs.declared.stage.Stage.TheVariants as stage
-use Rattle.lie_session.proofs.LoadedLemmas.{IsReached, reached_to, built_of_name, met_of_name, named_module, module_is}
+use Rattle.lie_session.proofs.LoadedLemmas.{IsReached, reached_to, built_of_name, met_of_name, lines_of_name, named_module}
+use Rattle.lie_session.proofs.NamedLemmas.{module_at}
 use Rattle.lie_session.proofs.OneReduction.{one_matrix_form, form_is_word}
 use Rattle.lie_session.proofs.StageLemmas.{no_block}
 
@@ -79,15 +83,15 @@ from_false b P Q is h = subst (λ z. MatchBool z P Q) is h
 
 -- ---- the line `reduce`
 
-module _ (g : LoadedGroup) (there : HasGroup g) (k : ℕ) (ended : Bool) (n : ℕ) (bytes name : List ℕ) (says : SaysLine (group_state g k ended) bytes (line.Reduce name)) (v : Module)
-    (is : module_of g.modules name ≡ Some v) where
+module _ (g : LoadedGroup) (there : HasGroup g) (k : ℕ) (ended : Bool) (n : ℕ) (bytes name : List ℕ) (says : SaysLine (group_state g k ended) bytes (line.Reduce name)) (v : NamedModule)
+    (is : named_at g.modules name ≡ Some v) where
   abbrev here : State
   here = group_state g k ended
 
-  abbrev Covered : Outcome → Module → Type 0
-  Covered r u = (x : Result ⊤ CoverFault) × Covers g.frame.field g.frame.datum u x × (r ≡ cover_outcome g name x)
+  abbrev Covered : Outcome → NamedModule → Type 0
+  Covered r u = (x : Result ⊤ CoverFault) × Covers g.frame.field g.frame.datum u.module u.lines x × (r ≡ cover_outcome g name x)
 
-  cover_told : (x : Result ⊤ CoverFault) (r : Outcome) (reply : Reply) (next : State) → Covers g.frame.field g.frame.datum v x → r ≡ cover_outcome g name x → Tells here n r reply next
+  cover_told : (x : Result ⊤ CoverFault) (r : Outcome) (reply : Reply) (next : State) → Covers g.frame.field g.frame.datum v.module v.lines x → r ≡ cover_outcome g name x → Tells here n r reply next
       → BeginsOrRefuses here n g name v reply next
   cover_told (Ok u) r reply next covers r_is t = inl (covers, subst (λ z. Tells here n z reply next) r_is t)
   cover_told (Err why) r reply next covers r_is t = inr (why, covers, subst (λ z. Tells here n z reply next) r_is t)
@@ -100,10 +104,10 @@ module _ (g : LoadedGroup) (there : HasGroup g) (k : ℕ) (ended : Bool) (n : �
         let led : Covered d.0 v = MatchOption-at_some (d.0 ≡ quiet (stage.Loaded g)) (Covered d.0) v is d.1 in
         cover_told led.0 d.0 reply next led.1 led.2 d.2
 
-    led_by : (x : Result ⊤ CoverFault) → Covers g.frame.field g.frame.datum v x → Tells here n (cover_outcome g name x) reply next → Replies here n bytes reply next
+    led_by : (x : Result ⊤ CoverFault) → Covers g.frame.field g.frame.datum v.module v.lines x → Tells here n (cover_outcome g name x) reply next → Replies here n bytes reply next
     led_by x covers t =
         let out = cover_outcome g name x in
-        replied_from here n bytes (line.Reduce name) says reply next (out, at_some (out ≡ quiet (stage.Loaded g)) (Covered out) (module_of g.modules name) v is (x, covers, refl), t)
+        replied_from here n bytes (line.Reduce name) says reply next (out, at_some (out ≡ quiet (stage.Loaded g)) (Covered out) (named_at g.modules name) v is (x, covers, refl), t)
 
     backward : BeginsOrRefuses here n g name v reply next → Replies here n bytes reply next
     backward (inl b) = led_by (Ok tt) b.0 b.1
@@ -120,8 +124,8 @@ reduce_from g k ended n bytes name there fits says =
       outside = no_block g.block fits.0;
       acted_on = found.0;
       named = found.1;
-      built = built_of_name g there name found.0 found.1;
-      met = met_of_name g there name found.0 found.1;
+      built = built_of_name g there name found.0.module (module_at g.modules name found.0 found.1);
+      met = met_of_name g there name found.0.module (module_at g.modules name found.0 found.1);
       answers = begin_does g there k ended n bytes name says found.0 found.1;
     }
 
@@ -166,43 +170,55 @@ module _ (f : SignedFrame) (v : Module) (M : Matrix ℕ) (covers : IsCoveringFor
 
 -- ---- the rows
 
-module _ (g : LoadedGroup) (there : HasGroup g) (k : ℕ) (ended : Bool) (n : ℕ) (bytes : List ℕ) (row : List ℤ) (says : SaysLine (group_state g k ended) bytes (line.Row row)) (b : Block)
-    (at : g.block ≡ Some b) (v : Module) (is : module_of g.modules b.name ≡ Some v) (covers : IsCovering g.frame.field g.frame.datum v) where
+module _ (g : LoadedGroup) (there : HasGroup g) (k : ℕ) (ended : Bool) (n : ℕ) (bytes : List ℕ) (row : List ℤ) (says : SaysLine (group_state g k ended) bytes (line.Row row)) (b : Rows)
+    (at : g.block ≡ Some (block.Rows b)) (named : NamedModule) (named_is : named_at g.modules b.name ≡ Some named) (covers : IsCovering g.frame.field g.frame.datum named.module named.lines) where
+  abbrev v : Module
+  v = named.module
+
+  is : module_of g.modules b.name ≡ Some v
+  is = module_at g.modules b.name named named_is
+
   abbrev now : State
   now = group_state g k ended
 
-  abbrev grown : Block
+  abbrev grown : Rows
   grown = with_row b row
 
   abbrev M : Matrix ℕ
   M = matrix_of (dimension v) grown.rows
 
   covers_for : IsCoveringFor g.frame v
-  covers_for = record { lawful = there.frame.lawful; audited = met_of_name g there b.name v is; covering = covers }
+  covers_for = record {
+    lawful = there.frame.lawful;
+    audited = met_of_name g there b.name v is;
+    lines = named.lines;
+    cover = lines_of_name g b.name named there named_is;
+    covering = covers;
+  }
 
   -- what the row leads to
   leads_on : (r : Outcome) → ReadsRow g row r → GoesOn g v grown r
   leads_on r h =
       MatchOption-at_some (r ≡ quiet (stage.Loaded g)) (λ u. GoesOn g u grown r) v is
-      (MatchOption-at_some (r ≡ quiet (stage.Loaded g)) (λ z. MatchOption (module_of g.modules z.name) (r ≡ quiet (stage.Loaded g)) (λ u. GoesOn g u (with_row z row) r)) b at h)
+      (MatchOption-at_some (r ≡ quiet (stage.Loaded g)) (λ z. MatchOption (module_of g.modules z.name) (r ≡ quiet (stage.Loaded g)) (λ u. GoesOn g u (with_row z row) r)) b (ap rows_in at) h)
 
   leads_back : (r : Outcome) → GoesOn g v grown r → ReadsRow g row r
   leads_back r h =
-      at_some (r ≡ quiet (stage.Loaded g)) (λ z. MatchOption (module_of g.modules z.name) (r ≡ quiet (stage.Loaded g)) (λ u. GoesOn g u (with_row z row) r)) g.block b at
+      at_some (r ≡ quiet (stage.Loaded g)) (λ z. MatchOption (module_of g.modules z.name) (r ≡ quiet (stage.Loaded g)) (λ u. GoesOn g u (with_row z row) r)) (rows_in g.block) b (ap rows_in at)
       (at_some (r ≡ quiet (stage.Loaded g)) (λ u. GoesOn g u grown r) (module_of g.modules b.name) v is h)
 
   -- a row is missing still
-  more_does : is_full v grown ≡ false → (reply : Reply) (next : State) → Replies now n bytes reply next ↔ Accepts (at_group now (record g { block = Some grown })) None reply next
+  more_does : is_full v grown ≡ false → (reply : Reply) (next : State) → Replies now n bytes reply next ↔ Accepts (at_group now (record g { block = Some (block.Rows grown) })) None reply next
   more_does missing reply next = (forward, backward) where
     kept : Outcome
-    kept = quiet (stage.Loaded (record g { block = Some grown }))
+    kept = quiet (stage.Loaded (record g { block = Some (block.Rows grown) }))
 
-    forward : Replies now n bytes reply next → Accepts (at_group now (record g { block = Some grown })) None reply next
+    forward : Replies now n bytes reply next → Accepts (at_group now (record g { block = Some (block.Rows grown) })) None reply next
     forward r =
         let d = done_from now n bytes (line.Row row) says reply next r in
         subst (λ z. Tells now n z reply next) (from_false (is_full v grown) (ReducesTo g v M d.0) (d.0 ≡ kept) missing (leads_on d.0 d.1)) d.2
 
-    backward : Accepts (at_group now (record g { block = Some grown })) None reply next → Replies now n bytes reply next
+    backward : Accepts (at_group now (record g { block = Some (block.Rows grown) })) None reply next → Replies now n bytes reply next
     backward a =
         replied_from now n bytes (line.Row row) says reply next (kept, leads_back kept (at_false (is_full v grown) (ReducesTo g v M kept) (kept ≡ kept) missing refl), a)
 
@@ -217,14 +233,14 @@ module _ (g : LoadedGroup) (there : HasGroup g) (k : ℕ) (ended : Bool) (n : �
     led_to text reply next tells t =
         let out = reduced_outcome g text in
         replied_from now n bytes (line.Row row) says reply next
-        (out, leads_back out (at_true (is_full v grown) (ReducesTo g v M out) (out ≡ quiet (stage.Loaded (record g { block = Some grown }))) full (text, tells, refl)), t)
+        (out, leads_back out (at_true (is_full v grown) (ReducesTo g v M out) (out ≡ quiet (stage.Loaded (record g { block = Some (block.Rows grown) }))) full (text, tells, refl)), t)
 
     last_does : (reply : Reply) (next : State) → Replies now n bytes reply next ↔ PrintsOrIsOutside now n g v M reply next
     last_does reply next = (forward, backward) where
       forward : Replies now n bytes reply next → PrintsOrIsOutside now n g v M reply next
       forward r =
           let d = done_from now n bytes (line.Row row) says reply next r in
-          let led = from_true (is_full v grown) (ReducesTo g v M d.0) (d.0 ≡ quiet (stage.Loaded (record g { block = Some grown }))) full (leads_on d.0 d.1) in
+          let led = from_true (is_full v grown) (ReducesTo g v M d.0) (d.0 ≡ quiet (stage.Loaded (record g { block = Some (block.Rows grown) }))) full (leads_on d.0 d.1) in
           reduced_told led.0 d.0 reply next led.1 led.2 d.2
 
       backward : PrintsOrIsOutside now n g v M reply next → Replies now n bytes reply next
@@ -257,19 +273,23 @@ module _ (g : LoadedGroup) (there : HasGroup g) (k : ℕ) (ended : Bool) (n : �
 row_from : (g : LoadedGroup) (k : ℕ) (ended : Bool) (n : ℕ) (bytes : List ℕ) (row : List ℤ) → HasGroup g → SaysLine (group_state g k ended) bytes (line.Row row) → (o : Option Block) → g.block ≡ o
     → block_wants o ≡ wants.Row → AnswersRow (group_state g k ended) n bytes row
 row_from g k ended n bytes row there says None at awaited = absurd cc
-row_from g k ended n bytes row there says (Some b) at awaited =
-    let block_is : IsBlockOf g.frame g.modules b = subst (λ (o : Option Block). IfSome o (IsBlockOf g.frame g.modules)) at there.block in
+row_from g k ended n bytes row there says (Some (block.Table t)) at awaited = absurd (no_line (nat_lt (length t.weights) t.width) awaited) where
+  no_line : (b : Bool) → cond b wants.Weight wants.Entry ≡ wants.Row → ⊥
+  no_line true h = absurd cc
+  no_line false h = absurd cc
+row_from g k ended n bytes row there says (Some (block.Rows b)) at awaited =
+    let block_is : AreRowsOf g.frame g.modules b = subst (λ (o : Option Block). IfSome o (IsBlockOf g.frame g.modules)) at there.block in
     let v = block_is.acted_on in
     record {
       group = g;
       stage_is = refl;
       loaded = there;
-      block = b;
+      before = b;
       inside = at;
       acted_on = v;
       named = block_is.named;
-      built = built_of_name g there b.name v block_is.named;
-      met = met_of_name g there b.name v block_is.named;
+      built = built_of_name g there b.name v.module (module_at g.modules b.name v block_is.named);
+      met = met_of_name g there b.name v.module (module_at g.modules b.name v block_is.named);
       covering = block_is.covering;
       more = more_does g there k ended n bytes row says b at v block_is.named block_is.covering;
       last = last_reduces g there k ended n bytes row says b at v block_is.named block_is.covering;

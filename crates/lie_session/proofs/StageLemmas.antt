@@ -34,13 +34,15 @@ use Rattle.lie_script.specs.declared.line.Line.TheVariants as line
 use Rattle.lie_script.specs.declared.sizes.Wants.TheVariants as wants
 use Rattle.lie_script.proofs.CallerLemmas.{accepted-fits, answer-keeps}
 use Rattle.lie_session.specs.DatumLines.{padded}
-use Rattle.lie_session.specs.Held.{Block, LoadedGroup}
-use Rattle.lie_session.specs.Named.{Named, Audits, module_of, audited_of, listed_of}
+use Rattle.lie_session.specs.Held.{LoadedGroup}
+use Rattle.lie_session.specs.declared.block.Block.{Block}
+use Rattle.lie_session.specs.declared.block.Block.TheVariants as block
+use Rattle.lie_session.specs.Named.{NamedModule, Named, Audits, named_at, module_of, audited_of, listed_of}
 use Rattle.lie_session.specs.Ready.{Commands, Ready}
 use Rattle.lie_session.specs.State.{field_of, datum_of, modules_of, is_loaded, block_wants, wants_of, sizes_of}
 use Rattle.lie_session.specs.declared.stage.Stage.{Stage}
 use Rattle.lie_session.specs.declared.stage.Stage.TheVariants as stage
-use Rattle.lie_session.proofs.NamedLemmas.{none_mapped}
+use Rattle.lie_session.proofs.NamedLemmas.{none_mapped, map_twice, alone}
 
 -- ---- what a reader is told
 
@@ -90,14 +92,29 @@ padded_within w h =
     (λ i d l. within_small (get_or w i d) (h i d l))
     (All-replicate (λ c. unsigned_abs c ≤ 100) (8 - length w) (pos 0) (omega arith))
 
+-- the same of a weight of a table
+within_thousand : (c : ℤ) → is_within (negsuc 999) (pos 1000) c ≡ true → unsigned_abs c ≤ 1000
+within_thousand (pos n) h = grind (arith, h)
+within_thousand (negsuc n) h = grind (arith, h)
+
+weight_within : (w : List ℤ) → All (λ c. is_within (negsuc 999) (pos 1000) c ≡ true) w → IsWithin 1000 (padded w)
+weight_within w h =
+    All-append (λ c. unsigned_abs c ≤ 1000) w (replicate (8 - length w) (pos 0))
+    (λ i d l. within_thousand (get_or w i d) (h i d l))
+    (All-replicate (λ c. unsigned_abs c ≤ 1000) (8 - length w) (pos 0) (omega arith))
+
+abbrev dim : NamedModule → ℕ
+dim v = dimension v.module
+
 -- a name that is not listed has no module
 pub free_from : (modules : Named) (name : List ℕ) → dimension_of (listed_of modules) name ≡ None → module_of modules name ≡ None
 free_from modules name h =
-    none_mapped dimension (module_of modules name) (sym (lookup-map_values dimension (λ other. bytes_eq other name) modules) ∙ h)
+    ap (option_map alone) (none_mapped dim (named_at modules name) (sym (lookup-map_values dim (λ other. bytes_eq other name) modules) ∙ h))
 
 -- the dimension of a module that is named
 pub listed_dimension : (modules : Named) (name : List ℕ) (o : Option Module) → o ≡ module_of modules name → dimension_of (listed_of modules) name ≡ option_map dimension o
-listed_dimension modules name o e = lookup-map_values dimension (λ other. bytes_eq other name) modules ∙ ap (option_map dimension) (sym e)
+listed_dimension modules name o e =
+    lookup-map_values dim (λ other. bytes_eq other name) modules ∙ sym (map_twice dimension alone (named_at modules name)) ∙ ap (option_map dimension) (sym e)
 
 -- a module that is named is audited for the frame
 pub audited_held : (f : SignedFrame) (entries : Audits) (name : List ℕ) (a : AuditedModule) → AllByRecursion (λ e. IsAuditedFor f e.1) entries → audited_of entries name ≡ Some a → IsAuditedFor f a
@@ -108,11 +125,16 @@ audited_held f entries name a h is =
 -- where a command is awaited, no block is being read
 pub no_block : (o : Option Block) → block_wants o ≡ wants.Command → o ≡ None
 no_block None h = refl
-no_block (Some b) h = absurd cc
+no_block (Some (block.Rows b)) h = absurd cc
+no_block (Some (block.Table t)) h = absurd (other (nat_lt (length t.weights) t.width) h) where
+  other : (b : Bool) → cond b wants.Weight wants.Entry ≡ wants.Command → ⊥
+  other true e = absurd cc
+  other false e = absurd cc
 
 -- ---- a line that was read fits its stage
 
-commands_from : (g : LoadedGroup) (said : Line) → Fits (wants_of (stage.Loaded g)) (sizes_of (stage.Loaded g)) (listed_of g.modules) said → Commands g said
+-- a command, or a line of a block
+pub commands_from : (g : LoadedGroup) (said : Line) → Fits (wants_of (stage.Loaded g)) (sizes_of (stage.Loaded g)) (listed_of g.modules) said → Commands g said
 commands_from g (line.Form w) fits = λ axioms c. fits.1 (frame_with g.frame.field g.frame.datum c) refl (record { d_is = refl; l_is = refl; m_is = refl }) axioms
 commands_from g (line.Same w v) fits = (
   λ axioms c. fits.1 (frame_with g.frame.field g.frame.datum c) refl (record { d_is = refl; l_is = refl; m_is = refl }) axioms,
@@ -127,8 +149,23 @@ commands_from g (line.Constant p q) fits = pair_of g.frame.datum p q fits.1 fits
 commands_from g (line.Weyl indices) fits = fits.1
 commands_from g (line.Adjoint name) fits = (free_from g.modules name fits.1.free, no_block g.block fits.0)
 commands_from g (line.Orbit name w) fits = (fits.2, padded_within w fits.3, free_from g.modules name fits.1.free, no_block g.block fits.0)
+commands_from g (line.Sum name a b) fits = (free_from g.modules name fits.1.free, no_block g.block fits.0)
+commands_from g (line.Tensor name a b) fits = (free_from g.modules name fits.1.free, no_block g.block fits.0)
+commands_from g (line.Dual name a) fits = (free_from g.modules name fits.1.free, no_block g.block fits.0)
+commands_from g (line.Table name n e) fits = (free_from g.modules name fits.1.free, no_block g.block fits.0, fits.2, fits.3, fits.4)
+commands_from g (line.Weight v) fits = (fits.0, fits.1, weight_within v fits.2)
+commands_from g (line.Entry simple power row col value) fits = (
+  fits.0,
+  record {
+    simple = fits.1.simple_is;
+    power = fits.1.power_is;
+    row = fits.1.row_is;
+    col = fits.1.col_is;
+    value = ((λ e. let some = fits.1.value_is.0 in let none = ap nat_abs e in absurd (omega (arith, some, none))), fits.1.value_is.1);
+  },
+)
 commands_from g (line.Matrix name w) fits = λ axioms c. fits.2 (frame_with g.frame.field g.frame.datum c) refl (record { d_is = refl; l_is = refl; m_is = refl }) axioms
-commands_from g (line.Row row) fits = (fits.1, fits.2)
+commands_from g (line.Row row) fits = (fits.0, fits.1, fits.2)
 commands_from g _ fits = tt
 
 ready_from : (at : Stage) (said : Line) → Fits (wants_of at) (sizes_of at) (listed_of (modules_of at)) said → Ready at said

@@ -100,6 +100,7 @@ load_words (load.Dead r) = Some (codes "dead", r ∷ [])
 abbrev pub module_words : ModuleFault → Option Words
 module_words module_of.NoMemory = None
 module_words (module_of.NotMinuscule r) = Some (codes "notminuscule", r ∷ [])
+module_words (module_of.Table n) = Some (codes "table", pos n ∷ [])
 module_words (module_of.Wide n) = Some (codes "wide", pos n ∷ [])
 module_words (module_of.Heavy a) = Some (codes "heavy", pos a ∷ [])
 module_words (module_of.Huge r k) = Some (codes "huge", r ∷ pos k ∷ [])

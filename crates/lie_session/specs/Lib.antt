@@ -1,5 +1,6 @@
 pub mod Lines
 pub mod DatumLines
+pub mod Blocks
 pub mod Named
 pub mod Held
 pub mod Settings

@@ -4,17 +4,22 @@
 --
 --   the frame of the group   IsFrameOf             the datum meets the axioms, its constants load, its signs are those of the adjoint module,
 --                                                  all as they should be, and each braid value is 1
---   a built module           IsBuilt               the adjoint module, or that of the orbit of a minuscule weight
-use Rattle.std.specs.Prelude.{◌≡◌, ◌⊎◌, ◌↔◌, ℕ, ℤ, List, length, Some, Ok}
-use Rattle.std.specs.List.{AllByRecursion}
+--   a built module           IsBuilt               the adjoint module, that of the orbit of a minuscule weight or of a table, or the sum, the tensor
+--                                                  product or the dual of built modules
+use Rattle.std.specs.Prelude.{◌≡◌, ◌≤◌, ◌↔◌, ℕ, ℤ, List, length, Some, Ok}
+use Rattle.std.specs.List.{All, AllByRecursion}
 use Rattle.std.specs.Option.{IfSome}
 use Rattle.lie_audit.specs.WordMatrix.{word_matrix, IsWordFor}
 use Rattle.lie_const.specs.Adjoint.{IsAdjointOf}
 use Rattle.lie_const.specs.Modules.{Module}
 use Rattle.lie_const.specs.Signs.{eta_of}
+use Rattle.lie_datum.specs.RootDatum.{IsWithin}
+use Rattle.lie_datum.specs.RootList.{RootDatum}
+use Rattle.lie_datum.specs.Vectors.{Vector}
 use Rattle.lie_field.specs.Faults.{IsWithinLimit}
 use Rattle.lie_group.specs.Groups.{IsCarrierOf, MeetsFrame}
 use Rattle.lie_group.specs.Loading.{IsFrameOf}
+use Rattle.lie_identities.specs.CoverLines.{no_lines, AreCoverLines}
 use Rattle.lie_identities.specs.Covers.{IsCovering}
 use Rattle.lie_letters.specs.GroupSpelled.{JoinedInGroup}
 use Rattle.lie_letters.specs.SignedFrames.{SignedFrame}
@@ -22,10 +27,15 @@ use Rattle.lie_letters.specs.declared.letter.Letter.{Letter}
 use Rattle.lie_reply.specs.Modules.{matrix_text}
 use Rattle.lie_script.specs.Reading.{reads}
 use Rattle.lie_script.specs.declared.line.Line.TheVariants as line
+use Rattle.lie_weight.specs.Duals.{IsDual}
 use Rattle.lie_weight.specs.OrbitFaults.{LoadsOrbit}
+use Rattle.lie_weight.specs.Sums.{LoadsSum}
+use Rattle.lie_weight.specs.Tables.{IsEntry, LoadsTable}
+use Rattle.lie_weight.specs.Tensors.{LoadsTensor}
+use Rattle.lie_weight.specs.declared.entry.Entry.{Entry}
 use Rattle.lie_session.specs.DatumLines.{padded}
 use Rattle.lie_session.specs.Held.{LoadedGroup, IsBlockOf}
-use Rattle.lie_session.specs.Named.{module_of, listed_of, HasDistinctNames}
+use Rattle.lie_session.specs.Named.{named_at, module_of, listed_of, HasDistinctNames}
 use Rattle.lie_session.specs.Output.{RepliesTo}
 use Rattle.lie_session.specs.Replies.{Accepts, Replies, SaysLine}
 use Rattle.lie_session.specs.State.{State, fresh, group_of, modules_of, wants_of, sizes_of}
@@ -33,22 +43,38 @@ use Rattle.lie_session.specs.declared.mode.Mode.{Mode}
 use Rattle.lie_session.specs.declared.reply.Reply.{Reply}
 use Rattle.lie_session.specs.declared.stage.Stage.TheVariants as stage
 
--- the module is the adjoint module of the datum of the frame, or that of the orbit of a weight by its signs
-abbrev pub IsBuilt : SignedFrame → Module → Type 0
-IsBuilt f v = IsAdjointOf f.datum v ⊎ ((w : List ℤ) × (length w ≡ f.datum.base.dim) × LoadsOrbit f.datum (eta_of f.signs) (padded w) (Ok v))
+-- weights and entries that a table may have: 1 to 300 weights within 1,000, and at most 20,000 entries
+pub record IsTable (d : RootDatum) (ws : List Vector) (es : List Entry) : Type 0 where
+  pub some : 1 ≤ length ws
+  pub few : length ws ≤ 300
+  pub weights : All (IsWithin 1000) ws
+  pub count : length es ≤ 20000
+  pub entries : All (IsEntry d (length ws)) es
+
+-- the module is the adjoint module of the datum of the frame, or that of the orbit of a weight or of a table by its signs; or it is the sum,
+-- the tensor product or the dual of such modules
+pub data IsBuilt (f : SignedFrame) : Module → Type 0 where
+  adjoint_module : (v : Module) → IsAdjointOf f.datum v → IsBuilt f v
+  orbit_module : (w : List ℤ) (v : Module) → length w ≡ f.datum.base.dim → LoadsOrbit f.datum (eta_of f.signs) (padded w) (Ok v) → IsBuilt f v
+  table_module : (ws : List Vector) (es : List Entry) (v : Module) → IsTable f.datum ws es → LoadsTable f.datum (eta_of f.signs) ws es (Ok v) → IsBuilt f v
+  sum_module : (a b v : Module) → IsBuilt f a → IsBuilt f b → LoadsSum f.datum a b (Ok v) → IsBuilt f v
+  tensor_module : (a b v : Module) → IsBuilt f a → IsBuilt f b → LoadsTensor f.datum a b (Ok v) → IsBuilt f v
+  dual_module : (a v : Module) → IsBuilt f a → IsDual f.datum a v → IsBuilt f v
 
 -- A group is loaded: its frame is that of a field within the limits and a datum, its carrier meets the identities and covers over the
--- field. Each named module is built from the frame and meets the identities, its name finds it, and no two have one name.
+-- field. Each named module is built from the frame and meets the identities, each of its cover lines is a combination of its weights for the axis
+-- of the line, its name finds it, and no two have one name.
 -- Where a block is being read, it is one on a named module that covers.
 pub record HasGroup (g : LoadedGroup) : Type 0 where
   pub sized : IsWithinLimit g.frame.field.given
   pub frame : IsFrameOf g.frame.field g.frame.datum g.frame
   pub carrier : IsCarrierOf g.frame g.carrier
   pub audited : MeetsFrame g.frame g.carrier
-  pub covering : IsCovering g.frame.field g.frame.datum g.carrier
-  pub built : AllByRecursion (λ e. IsBuilt g.frame e.1) g.modules
-  pub met : AllByRecursion (λ e. MeetsFrame g.frame e.1) g.modules
-  pub found : AllByRecursion (λ e. module_of g.modules e.0 ≡ Some e.1) g.modules
+  pub covering : IsCovering g.frame.field g.frame.datum g.carrier no_lines
+  pub built : AllByRecursion (λ e. IsBuilt g.frame e.1.module) g.modules
+  pub met : AllByRecursion (λ e. MeetsFrame g.frame e.1.module) g.modules
+  pub lines : AllByRecursion (λ e. AreCoverLines g.frame.datum e.1.module e.1.lines) g.modules
+  pub found : AllByRecursion (λ e. named_at g.modules e.0 ≡ Some e.1) g.modules
   pub distinct : HasDistinctNames g.modules
   pub block : IfSome g.block (IsBlockOf g.frame g.modules)
 

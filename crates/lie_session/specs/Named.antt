@@ -1,7 +1,7 @@
--- The named modules of a loaded group.
+-- The named modules of a loaded group, with their cover lines.
 -- Own.
-use Rattle.std.specs.Prelude.{◌≡◌, ℕ, ℤ, List, map, Option, bytes_eq}
-use Rattle.std.specs.Coded.{Coded, code_by, coded_ℕ, coded_ℤ, coded×, coded_list}
+use Rattle.std.specs.Prelude.{◌≡◌, ℕ, ℤ, List, map, Option, option_map, bytes_eq}
+use Rattle.std.specs.Coded.{Coded, code_by, coded_ℕ, coded_ℤ, coded×, coded_list, coded_option}
 use Rattle.std.specs.Global.{Vec}
 use Rattle.std.specs.List.{IsDistinct, IsDistinct-prop}
 use Rattle.std.specs.Map.{lookup, keys_of}
@@ -18,12 +18,26 @@ use Rattle.lie_datum.specs.declared.root_pair.Root.{Root}
 use Rattle.lie_datum.specs.RootList.{RootDatum}
 use Rattle.lie_datum.specs.Vectors.{Vector}
 use Rattle.lie_identities.specs.Audited.{AuditedModule}
+use Rattle.lie_identities.specs.CoverLines.{CoverLines, no_lines}
 use Rattle.lie_ring.specs.Matrices.{Matrix}
 use Rattle.lie_script.specs.Names.{Listed}
 
+-- a module with its cover lines
+pub record NamedModule : Type 0 where
+  pub «module» : Module
+  pub lines : CoverLines
+
+-- a module without cover lines
+abbrev pub without_lines : Module → NamedModule
+without_lines v = record { «module» = v; lines = no_lines }
+
+-- an audited module without what it is audited for
+abbrev pub with_its_lines : AuditedModule → NamedModule
+with_its_lines a = record { «module» = a.module; lines = a.lines }
+
 -- names with their modules, in the order of making
 abbrev pub Named : Type 0
-Named = List (List ℕ × Module)
+Named = List (List ℕ × NamedModule)
 
 -- names with their modules and what these are audited for
 abbrev pub Audits : Type 0
@@ -33,21 +47,25 @@ Audits = List (List ℕ × AuditedModule)
 abbrev pub audits_of : List (Vec ℕ × AuditedModule) → Audits
 audits_of entries = map (λ e. (e.0.items, e.1)) entries
 
--- the names with the modules alone
+-- the names with the modules and their lines alone
 abbrev pub named_of : Audits → Named
-named_of entries = map (λ e. (e.0, e.1.module)) entries
+named_of entries = map (λ e. (e.0, with_its_lines e.1)) entries
 
 -- the audited module of this name
 abbrev pub audited_of : Audits → List ℕ → Option AuditedModule
 audited_of entries name = lookup (λ other. bytes_eq other name) entries
 
+-- the module of this name, with its lines
+abbrev pub named_at : Named → List ℕ → Option NamedModule
+named_at modules name = lookup (λ other. bytes_eq other name) modules
+
 -- the module of this name
 abbrev pub module_of : Named → List ℕ → Option Module
-module_of modules name = lookup (λ other. bytes_eq other name) modules
+module_of modules name = option_map (λ v. v.module) (named_at modules name)
 
 -- the names with the dimensions
 abbrev pub listed_of : Named → Listed
-listed_of modules = map (λ e. (e.0, dimension e.1)) modules
+listed_of modules = map (λ e. (e.0, dimension e.1.module)) modules
 
 -- no two modules have one name
 abbrev pub HasDistinctNames : Named → Type 0
@@ -55,7 +73,7 @@ HasDistinctNames modules = IsDistinct bytes_eq (keys_of modules)
 
 -- so no two of the names with the dimensions are alike
 pub listed_distinct : (modules : Named) → HasDistinctNames modules → IsDistinct bytes_eq (keys_of (listed_of modules))
-listed_distinct modules distinct = subst (IsDistinct bytes_eq) (sym (keys_of-map_values dimension modules)) distinct
+listed_distinct modules distinct = subst (IsDistinct bytes_eq) (sym (keys_of-map_values (λ (v : NamedModule). dimension v.module) modules)) distinct
 
 -- audited modules with their names, of which no two are alike
 pub record NamedModules : Type 0 where
@@ -113,11 +131,16 @@ signs_code =
     code_by (ℕ × (ℕ × List ℤ)) (coded× coded_ℕ (coded× coded_ℕ (coded_list coded_ℤ))) (λ t. (t.rank, (t.positive, t.signs)))
     (λ p. record { rank = p.0; positive = p.1.0; signs = p.1.1 }) (λ _. refl)
 
--- an audited module as the module, and what it is audited for
+-- cover lines as lists, or none
+abbrev lines_code : Coded CoverLines
+lines_code = coded_list (coded_option vector_code)
+
+-- an audited module as the module, what it is audited for, and its cover lines
 abbrev audited_code : Coded AuditedModule
 audited_code =
-    code_by (Module × (RootDatum × (ConstantTable × SignTable))) (coded× module_code (coded× datum_code (coded× constants_code signs_code)))
-    (λ a. (a.module, (a.datum, (a.constants, a.signs)))) (λ p. record { «module» = p.0; datum = p.1.0; constants = p.1.1.0; signs = p.1.1.1 }) (λ _. refl)
+    code_by (Module × (RootDatum × (ConstantTable × (SignTable × CoverLines)))) (coded× module_code (coded× datum_code (coded× constants_code (coded× signs_code lines_code))))
+    (λ a. (a.module, (a.datum, (a.constants, (a.signs, a.lines)))))
+    (λ p. record { «module» = p.0; datum = p.1.0; constants = p.1.1.0; signs = p.1.1.1.0; lines = p.1.1.1.1 }) (λ _. refl)
 
 -- and audited modules with their names as the entries
 abbrev pub named_code : Coded NamedModules

@@ -2,7 +2,8 @@
 -- For proofs: no public clause cites it.
 -- Own.
 use Rattle.std.specs.Prelude.{◌≡◌, ◌≢◌, ℕ, List, Option, Result, Ok, Err, MatchOption}
-use Rattle.lie_session.specs.Held.{Block, LoadedGroup, without_block}
+use Rattle.lie_session.specs.Blocks.{Rows}
+use Rattle.lie_session.specs.Held.{LoadedGroup, without_block}
 use Rattle.lie_session.specs.Named.{module_of}
 use Rattle.lie_session.specs.Outcomes.{Outcome, quiet, GoesOn}
 use Rattle.lie_session.specs.State.{dropped}
@@ -16,8 +17,8 @@ abbrev pub IsLed : (Outcome → Type 0) → Outcome → Type 0
 IsLed P (Ok led) = P (Ok led)
 IsLed P (Err why) = why ≢ call.NoMemory → P (Err why)
 
--- what follows of a block that a row has joined
-abbrev pub Joined : LoadedGroup → Block → Outcome → Type 0
+-- what follows of rows that one has joined
+abbrev pub Joined : LoadedGroup → Rows → Outcome → Type 0
 Joined g b r = MatchOption (module_of g.modules b.name) (r ≡ quiet (stage.Loaded g)) (λ v. GoesOn g v b r)
 
 -- the text of an answer, with the group after it; a fault leaves the group but for its block

@@ -33,12 +33,19 @@ use Rattle.lie_ring.specs.Matrices.{Matrix}
 use Rattle.lie_script.specs.declared.line.Line.{Line}
 use Rattle.lie_script.specs.declared.line.Line.TheVariants as line
 use Rattle.lie_unip.specs.Forms.{FormData}
+use Rattle.lie_weight.specs.Duals.{IsDual}
 use Rattle.lie_weight.specs.OrbitFaults.{LoadsOrbit}
+use Rattle.lie_weight.specs.Sums.{LoadsSum}
+use Rattle.lie_weight.specs.Tables.{LoadsTable}
+use Rattle.lie_weight.specs.Tensors.{LoadsTensor}
+use Rattle.lie_weight.specs.declared.entry.Entry.{Entry}
 use Rattle.lie_weight.specs.declared.faults.ModuleFault.{ModuleFault}
 use Rattle.lie_session.specs.Asked.{TellsSame}
 use Rattle.lie_session.specs.DatumLines.{DatumLines, opened, padded, with_root, with_coroot, is_whole, base_of}
-use Rattle.lie_session.specs.Held.{Setting, Block, LoadedGroup, begun, with_row, without_block}
-use Rattle.lie_session.specs.Named.{module_of}
+use Rattle.lie_session.specs.Blocks.{Rows, TableLines, begun, with_row, opened_table, with_weight, with_entry, is_whole_table}
+use Rattle.lie_session.specs.Held.{Setting, LoadedGroup, without_block, rows_in, table_in}
+use Rattle.lie_session.specs.Named.{without_lines, named_at, module_of}
+use Rattle.lie_session.specs.declared.block.Block.TheVariants as block
 use Rattle.lie_session.specs.declared.faults.CallFault.{CallFault}
 use Rattle.lie_session.specs.declared.faults.CallFault.TheVariants as call
 use Rattle.lie_session.specs.declared.stage.Stage.{Stage}
@@ -111,9 +118,9 @@ ReadsDatum F lines r =
 
 -- ---- commands
 
--- the group with one named module more
+-- the group with one named module more, which has no cover lines
 abbrev pub with_module : LoadedGroup → List ℕ → Module → LoadedGroup
-with_module g name v = record g { modules = g.modules ++ (name, v) ∷ [] }
+with_module g name v = record g { modules = g.modules ++ (name, without_lines v) ∷ [] }
 
 -- the module that was audited gets the name
 abbrev pub audit_outcome : LoadedGroup → List ℕ → Result Module AuditFault → Outcome
@@ -139,6 +146,50 @@ abbrev pub NamesOrbit : LoadedGroup → List ℕ → List ℤ → Outcome → Ty
 NamesOrbit g name w r =
     (x : Result Module ModuleFault) × LoadsOrbit g.frame.datum (eta_of g.frame.signs) (padded w) x × NamesMade g name x r
 
+-- what is made of the modules of two names, where this is a module, is audited and gets the name; a name that no module has is refused in reading
+abbrev pub NamesOfTwo : (RootDatum → Module → Module → Result Module ModuleFault → Type 0) → LoadedGroup → List ℕ → List ℕ → List ℕ → Outcome → Type 0
+NamesOfTwo Makes g name a b r =
+    MatchOption (module_of g.modules a) (r ≡ quiet (stage.Loaded g))
+    (λ v. MatchOption (module_of g.modules b) (r ≡ quiet (stage.Loaded g)) (λ w. (x : Result Module ModuleFault) × Makes g.frame.datum v w x × NamesMade g name x r))
+
+-- the sum of the modules of two names is audited and gets the name
+abbrev pub NamesSum : LoadedGroup → List ℕ → List ℕ → List ℕ → Outcome → Type 0
+NamesSum g name a b r = NamesOfTwo LoadsSum g name a b r
+
+-- their tensor product is audited and gets the name
+abbrev pub NamesTensor : LoadedGroup → List ℕ → List ℕ → List ℕ → Outcome → Type 0
+NamesTensor g name a b r = NamesOfTwo LoadsTensor g name a b r
+
+-- the dual of the module of a name is audited and gets the name
+abbrev pub NamesDual : LoadedGroup → List ℕ → List ℕ → Outcome → Type 0
+NamesDual g name a r =
+    MatchOption (module_of g.modules a) (r ≡ quiet (stage.Loaded g)) (λ v. (w : Module) × IsDual g.frame.datum v w × NamesModule g name w r)
+
+-- ---- tables
+
+-- the module of the table is audited and gets its name, and no block is left
+abbrev pub NamesTable : LoadedGroup → TableLines → Outcome → Type 0
+NamesTable g t r =
+    (x : Result Module ModuleFault) × LoadsTable g.frame.datum (eta_of g.frame.signs) t.weights t.entries x × NamesMade (without_block g) t.name x r
+
+-- the table, which a line has joined, is kept; where it is whole, its module gets its name
+abbrev pub ReadsTable : LoadedGroup → TableLines → Outcome → Type 0
+ReadsTable g t r = MatchBool (is_whole_table t) (NamesTable g t r) (r ≡ quiet (stage.Loaded (record g { block = Some (block.Table t) })))
+
+-- a weight joins the table; outside of a table it is refused in reading
+abbrev pub ReadsWeight : LoadedGroup → List ℤ → Outcome → Type 0
+ReadsWeight g v r = MatchOption (table_in g.block) (r ≡ quiet (stage.Loaded g)) (λ t. ReadsTable g (with_weight t v) r)
+
+-- an entry joins the table; outside of a table it is refused in reading
+abbrev pub ReadsEntry : LoadedGroup → Entry → Outcome → Type 0
+ReadsEntry g e r = MatchOption (table_in g.block) (r ≡ quiet (stage.Loaded g)) (λ t. ReadsTable g (with_entry t e) r)
+
+-- a table of n weights and e entries is begun
+abbrev pub BeginsTable : LoadedGroup → List ℕ → ℕ → ℕ → Outcome → Type 0
+BeginsTable g name n e r = r ≡ quiet (stage.Loaded (record g { block = Some (block.Table (opened_table name n e)) }))
+
+-- ---- matrices of words
+
 -- the rows of the matrix of the word on the module of the name; a name that no module has is refused in reading
 abbrev pub SaysMatrix : LoadedGroup → List ℕ → List Letter → Outcome → Type 0
 SaysMatrix g name w r =
@@ -148,18 +199,17 @@ SaysMatrix g name w r =
 abbrev pub Says : LoadedGroup → (List ℕ → Type 0) → Outcome → Type 0
 Says g P r = (text : List ℕ) × P text × (r ≡ answered (stage.Loaded g) text)
 
--- ---- matrices of words
-
 -- the block is begun, where the module covers
 abbrev pub cover_outcome : LoadedGroup → List ℕ → Result ⊤ CoverFault → Outcome
-cover_outcome g name (Ok u) = quiet (stage.Loaded (record g { block = Some (begun name) }))
+cover_outcome g name (Ok u) = quiet (stage.Loaded (record g { block = Some (block.Rows (begun name)) }))
 cover_outcome g name (Err why) = Err (call.Cover why)
 
--- a block on the module of the name is begun, where this module covers over the field; a name that no module has is refused in reading
+-- a block on the module of the name is begun, where this module covers over the field with its cover lines; a name that no module has is refused
+-- in reading
 abbrev pub BeginsBlock : LoadedGroup → List ℕ → Outcome → Type 0
 BeginsBlock g name r =
-    MatchOption (module_of g.modules name) (r ≡ quiet (stage.Loaded g))
-    (λ v. (x : Result ⊤ CoverFault) × Covers g.frame.field g.frame.datum v x × (r ≡ cover_outcome g name x))
+    MatchOption (named_at g.modules name) (r ≡ quiet (stage.Loaded g))
+    (λ v. (x : Result ⊤ CoverFault) × Covers g.frame.field g.frame.datum v.module v.lines x × (r ≡ cover_outcome g name x))
 
 -- the matrix of these rows, of dimension n
 abbrev pub matrix_of : ℕ → List (List ℕ) → Matrix ℕ
@@ -179,19 +229,19 @@ reduced_outcome g None = Err call.Outside
 abbrev pub ReducesTo : LoadedGroup → Module → Matrix ℕ → Outcome → Type 0
 ReducesTo g v M r = (text : Option (List ℕ)) × TellsReduction g.frame v M text × (r ≡ reduced_outcome g text)
 
--- the block has as many rows as its module has basis vectors
-abbrev pub is_full : Module → Block → Bool
+-- there are as many rows as the module has basis vectors
+abbrev pub is_full : Module → Rows → Bool
 is_full v b = nat_eq (length b.rows) (dimension v)
 
--- the block, which a row has joined, is kept; where it is full, its matrix is reduced
-abbrev pub GoesOn : LoadedGroup → Module → Block → Outcome → Type 0
+-- the rows, which one has joined, are kept; where they are full, their matrix is reduced
+abbrev pub GoesOn : LoadedGroup → Module → Rows → Outcome → Type 0
 GoesOn g v b r =
-    MatchBool (is_full v b) (ReducesTo g v (matrix_of (dimension v) b.rows) r) (r ≡ quiet (stage.Loaded (record g { block = Some b })))
+    MatchBool (is_full v b) (ReducesTo g v (matrix_of (dimension v) b.rows) r) (r ≡ quiet (stage.Loaded (record g { block = Some (block.Rows b) })))
 
--- a row joins the block; outside of a block it is refused in reading
+-- a row joins the rows before it; outside of a matrix it is refused in reading
 abbrev pub ReadsRow : LoadedGroup → List ℤ → Outcome → Type 0
 ReadsRow g row r =
-    MatchOption g.block (r ≡ quiet (stage.Loaded g))
+    MatchOption (rows_in g.block) (r ≡ quiet (stage.Loaded g))
     (λ b. MatchOption (module_of g.modules b.name) (r ≡ quiet (stage.Loaded g)) (λ v. GoesOn g v (with_row b row) r))
 
 -- ---- any line
@@ -213,6 +263,12 @@ Leads (stage.Loaded g) (line.Constant p q) r = Says g (ConstantTextOf g.frame.da
 Leads (stage.Loaded g) (line.Weyl indices) r = Says g (WeylTextOf g.frame.datum indices) r
 Leads (stage.Loaded g) (line.Adjoint name) r = NamesAdjoint g name r
 Leads (stage.Loaded g) (line.Orbit name w) r = NamesOrbit g name w r
+Leads (stage.Loaded g) (line.Sum name a b) r = NamesSum g name a b r
+Leads (stage.Loaded g) (line.Tensor name a b) r = NamesTensor g name a b r
+Leads (stage.Loaded g) (line.Dual name a) r = NamesDual g name a r
+Leads (stage.Loaded g) (line.Table name n e) r = BeginsTable g name n e r
+Leads (stage.Loaded g) (line.Weight v) r = ReadsWeight g v r
+Leads (stage.Loaded g) (line.Entry simple power row col value) r = ReadsEntry g (record { simple = simple; power = power; row = row; col = col; value = value }) r
 Leads (stage.Loaded g) (line.Matrix name w) r = SaysMatrix g name w r
 Leads (stage.Loaded g) (line.Reduce name) r = BeginsBlock g name r
 Leads (stage.Loaded g) (line.Row row) r = ReadsRow g row r

@@ -22,14 +22,16 @@ use Rattle.lie_script.specs.declared.faults.FaultName.TheVariants as fault
 use Rattle.lie_script.specs.declared.line.Line.TheVariants as line
 use Rattle.lie_unip.specs.Forms.{FormData}
 use Rattle.lie_session.specs.Faults.{cover_words}
-use Rattle.lie_session.specs.Held.{Block, LoadedGroup, begun, with_row, without_block}
+use Rattle.lie_session.specs.Blocks.{Rows, begun, with_row}
+use Rattle.lie_session.specs.Held.{LoadedGroup, without_block}
 use Rattle.lie_session.specs.Loaded.{IsBuilt, HasGroup}
-use Rattle.lie_session.specs.Named.{module_of}
+use Rattle.lie_session.specs.Named.{NamedModule, named_at}
 use Rattle.lie_session.specs.Outcomes.{is_full, matrix_of}
 use Rattle.lie_session.specs.Output.{RepliesTo}
 use Rattle.lie_session.specs.Printed.{Prints}
 use Rattle.lie_session.specs.Replies.{Accepts, Refuses, Replies, SaysLine}
 use Rattle.lie_session.specs.State.{State, fresh}
+use Rattle.lie_session.specs.declared.block.Block.TheVariants as block
 use Rattle.lie_session.specs.declared.mode.Mode.{Mode}
 use Rattle.lie_session.specs.declared.reply.Reply.{Reply}
 use Rattle.lie_session.specs.declared.stage.Stage.TheVariants as stage
@@ -40,12 +42,12 @@ at_group s g = record s { stage = stage.Loaded g }
 
 -- ---- the line `reduce`
 
--- the module covers over the field, the reply is silent, and a block on it is begun; or it does not cover, and the reply is the refusal for
+-- the module covers over the field, with its cover lines, the reply is silent, and a block on it is begun; or it does not cover, and the reply is the refusal for
 -- the first root, else the first axis, at which this fails
-abbrev pub BeginsOrRefuses : State → ℕ → LoadedGroup → List ℕ → Module → Reply → State → Type 0
+abbrev pub BeginsOrRefuses : State → ℕ → LoadedGroup → List ℕ → NamedModule → Reply → State → Type 0
 BeginsOrRefuses s n g name v reply next =
-    (IsCovering g.frame.field g.frame.datum v × Accepts (at_group s (record g { block = Some (begun name) })) None reply next)
-    ⊎ ((why : CoverFault) × IsCoverFault g.frame.field g.frame.datum v why × Refuses s (refusal n (cover_words why).0 (cover_words why).1) reply next)
+    (IsCovering g.frame.field g.frame.datum v.module v.lines × Accepts (at_group s (record g { block = Some (block.Rows (begun name)) })) None reply next)
+    ⊎ ((why : CoverFault) × IsCoverFault g.frame.field g.frame.datum v.module v.lines why × Refuses s (refusal n (cover_words why).0 (cover_words why).1) reply next)
 
 -- the name is that of a built module of a loaded group in which no block is read, and the replies to the line are these
 pub record AnswersReduce (s : State) (n : ℕ) (bytes name : List ℕ) : Type 0 where
@@ -53,10 +55,10 @@ pub record AnswersReduce (s : State) (n : ℕ) (bytes name : List ℕ) : Type 0 
   pub stage_is : s.stage ≡ stage.Loaded group
   pub loaded : HasGroup group
   pub outside : group.block ≡ None
-  pub acted_on : Module
-  pub named : module_of group.modules name ≡ Some acted_on
-  pub built : IsBuilt group.frame acted_on
-  pub met : MeetsFrame group.frame acted_on
+  pub acted_on : NamedModule
+  pub named : named_at group.modules name ≡ Some acted_on
+  pub built : IsBuilt group.frame acted_on.module
+  pub met : MeetsFrame group.frame acted_on.module
   pub answers : (reply : Reply) (next : State) → Replies s n bytes reply next ↔ BeginsOrRefuses s n group name acted_on reply next
 
 -- in each state that a script leads to, each line `reduce` is answered so
@@ -82,23 +84,23 @@ pub record Reduces (s : State) (n : ℕ) (bytes : List ℕ) (g : LoadedGroup) (v
   pub words : (w : List Letter) → IsWordOver (unsigned g.frame) w → word_matrix g.frame.field v w ≡ M
       → (reply : Reply) (next : State) → Replies s n bytes reply next ↔ Prints (at_group s (without_block g)) g.frame w reply next
 
--- A block is read in a loaded group. Its module is a built one that covers, and the row that the line gives joins the rows before it: until they are
+-- Rows are read in a loaded group. Their module is a built one that covers, and the row that the line gives joins the rows before it: until they are
 -- as many as the module has basis vectors the reply is silent, and then the matrix of the rows is reduced.
 pub record AnswersRow (s : State) (n : ℕ) (bytes : List ℕ) (row : List ℤ) : Type 0 where
   pub group : LoadedGroup
   pub stage_is : s.stage ≡ stage.Loaded group
   pub loaded : HasGroup group
-  pub block : Block
-  pub inside : group.block ≡ Some block
-  pub acted_on : Module
-  pub named : module_of group.modules block.name ≡ Some acted_on
-  pub built : IsBuilt group.frame acted_on
-  pub met : MeetsFrame group.frame acted_on
-  pub covering : IsCovering group.frame.field group.frame.datum acted_on
-  pub more : is_full acted_on (with_row block row) ≡ false
-      → (reply : Reply) (next : State) → Replies s n bytes reply next ↔ Accepts (at_group s (record group { block = Some (with_row block row) })) None reply next
-  pub last : is_full acted_on (with_row block row) ≡ true
-      → Reduces s n bytes group acted_on (matrix_of (dimension acted_on) (with_row block row).rows)
+  pub before : Rows
+  pub inside : group.block ≡ Some (block.Rows before)
+  pub acted_on : NamedModule
+  pub named : named_at group.modules before.name ≡ Some acted_on
+  pub built : IsBuilt group.frame acted_on.module
+  pub met : MeetsFrame group.frame acted_on.module
+  pub covering : IsCovering group.frame.field group.frame.datum acted_on.module acted_on.lines
+  pub more : is_full acted_on.module (with_row before row) ≡ false
+      → (reply : Reply) (next : State) → Replies s n bytes reply next ↔ Accepts (at_group s (record group { block = Some (block.Rows (with_row before row)) })) None reply next
+  pub last : is_full acted_on.module (with_row before row) ≡ true
+      → Reduces s n bytes group acted_on.module (matrix_of (dimension acted_on.module) (with_row before row).rows)
 
 -- in each state that a script leads to, each row is answered so
 abbrev pub MatricesAreReduced : Type 0

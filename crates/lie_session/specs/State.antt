@@ -16,8 +16,11 @@ use Rattle.lie_script.specs.declared.sizes.Sizes.{Sizes}
 use Rattle.lie_script.specs.declared.sizes.Wants.{Wants}
 use Rattle.lie_script.specs.declared.sizes.Wants.TheVariants as wants
 use Rattle.lie_session.specs.DatumLines.{datum_wants}
-use Rattle.lie_session.specs.Held.{Block, LoadedGroup, without_block}
+use Rattle.lie_session.specs.Blocks.{table_wants}
+use Rattle.lie_session.specs.Held.{LoadedGroup, without_block}
 use Rattle.lie_session.specs.Named.{Named, module_of}
+use Rattle.lie_session.specs.declared.block.Block.{Block}
+use Rattle.lie_session.specs.declared.block.Block.TheVariants as block
 use Rattle.lie_session.specs.declared.stage.Stage.{Stage}
 use Rattle.lie_session.specs.declared.stage.Stage.TheVariants as stage
 use Rattle.lie_session.specs.declared.status.Status.{Status}
@@ -65,12 +68,13 @@ abbrev pub modules_of : Stage → Named
 modules_of (stage.Loaded g) = g.modules
 modules_of _ = []
 
--- a row is awaited in a block, and a command outside
+-- a row is awaited behind `reduce`, a weight or an entry in a table, and a command outside of a block
 abbrev pub block_wants : Option Block → Wants
 block_wants None = wants.Command
-block_wants (Some b) = wants.Row
+block_wants (Some (block.Rows b)) = wants.Row
+block_wants (Some (block.Table t)) = table_wants t
 
--- what is awaited: the field, the line `datum`, the simple roots and coroots, `load`, and then commands, or the rows of a block
+-- what is awaited: the field, the line `datum`, the simple roots and coroots, `load`, and then commands, or the lines of a block
 abbrev pub wants_of : Stage → Wants
 wants_of stage.Field = wants.Field
 wants_of (stage.Datum F) = wants.Datum
@@ -107,12 +111,13 @@ abbrev pub dimension_of : Option Module → ℕ
 dimension_of None = 0
 dimension_of (Some v) = dimension v
 
--- the dimension of the module of a block, 0 outside
+-- the dimension of the module of a block, which a table will have, 0 outside
 abbrev pub block_dim : Named → Option Block → ℕ
 block_dim modules None = 0
-block_dim modules (Some b) = dimension_of (module_of modules b.name)
+block_dim modules (Some (block.Rows b)) = dimension_of (module_of modules b.name)
+block_dim modules (Some (block.Table t)) = t.width
 
--- how many elements a row has, 0 where none is awaited
+-- the dimension of the block, 0 where none is read
 abbrev pub width_of : Stage → ℕ
 width_of (stage.Loaded g) = block_dim g.modules g.block
 width_of _ = 0

@@ -295,6 +295,7 @@ fn words_of_module(alloc: Global, fault: &ModuleFault) -> Result<Words, AllocErr
     match fault {
         ModuleFault::NoMemory => Err(AllocError),
         ModuleFault::NotMinuscule(r) => words(alloc, b"notminuscule", &[r.number() as i128]),
+        ModuleFault::Table(n) => words(alloc, b"table", &[*n as i128]),
         ModuleFault::Wide(n) => words(alloc, b"wide", &[*n as i128]),
         ModuleFault::Heavy(a) => words(alloc, b"heavy", &[*a as i128]),
         ModuleFault::Huge(r, k) => words(alloc, b"huge", &[r.number() as i128, *k as i128]),

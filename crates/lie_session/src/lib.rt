@@ -21,9 +21,11 @@ mod modules;
 mod output;
 mod program;
 mod reply;
+mod rows;
 mod session;
 mod stage;
 mod status;
+mod table;
 mod talk;
 
 pub use mode::Mode;

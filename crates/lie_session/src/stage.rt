@@ -125,10 +125,10 @@ fn at_datum(alloc: Global, field: Field, line: Line) -> Result<Led, CallFault>
     requires { Ready (stage.Datum field) line }
     ensures { IsLed (Leads (stage.Datum field) line) result }
 {
-    match line {
-        Line::Datum { d, l } => read_datum(alloc, field, DatumLines::opened(alloc, d, l)),
-        _ => Ok((Stage::Datum(field), None)),
-    }
+    let Line::Datum { d, l } = line else {
+        return Ok((Stage::Datum(field), None));
+    };
+    read_datum(alloc, field, DatumLines::opened(alloc, d, l))
 }
 
 /// A line where a simple root or coroot is awaited.

@@ -1,5 +1,6 @@
--- Modules with steps along the same weights are one, and the first place that is huge is one.
+-- Modules with the same weights and the same matrices of the simple roots are one, and the first place that is huge is one.
 use Rattle.std.proofs.Common.{◌≡◌, ℕ, suc, ◌≤◌, ℤ, List, length, sym, ◌∙◌, arith, ◌⊎◌, inl, inr, ⊎_elim}
+use Rattle.lie_ring.specs.Matrices.{Matrix}
 use Rattle.lie_datum.specs.Vectors.{Vector}
 use Rattle.lie_datum.specs.Numbers.{place}
 use Rattle.lie_datum.specs.RootList.{RootDatum, IsNumber, IsLoaded}
@@ -11,7 +12,10 @@ use Rattle.lie_const.specs.Signs.{Signs}
 use Rattle.lie_weight.specs.Conjugation.{absolute_height, IsCompleted, IsCompletedBelow, IsHuge, Precedes}
 use Rattle.lie_weight.specs.OrbitModules.{HasSteps}
 use Rattle.lie_weight.specs.OrbitFaults.{IsFirstHugeAlong}
-use Rattle.lie_weight.proofs.UniqueLemmas.{powers_same, huge_same, one_module}
+use Rattle.lie_weight.specs.Along.{HasSimple, IsFirstHugeFrom}
+use Rattle.lie_weight.specs.Completion.{step_powers}
+use Rattle.lie_weight.proofs.SimpleLemmas.{steps_simple, huge_from}
+use Rattle.lie_weight.proofs.UniqueLemmas.{simple_same, powers_same, huge_same, one_module}
 
 -- ---- the order of the places
 module _ (d : RootDatum) where
@@ -33,26 +37,43 @@ module _ (d : RootDatum) where
 completed_less : (d : RootDatum) (eta : Signs) (v : Module) (h k : ℕ) → k ≤ h → IsCompletedBelow d eta v h → IsCompletedBelow d eta v k
 completed_less d eta v h k l c r low = c r (omega (arith, low, l))
 
--- ---- modules along the same weights
-module _ (d : RootDatum) (loaded : IsLoaded d) (eta : Signs) (ws : List Vector) where
+-- ---- modules with the same matrices of the simple roots
+module _ (d : RootDatum) (loaded : IsLoaded d) (eta : Signs) (g : ℤ → ℕ → Matrix ℤ) (ws : List Vector) where
+  alike : (a b : Module) → HasSimple d g ws a → HasSimple d g ws b → b.weights ≡ a.weights
+  alike a b sa sb = sb.weights ∙ sym sa.weights
+
   -- a place that is huge in one is huge in the other, up to the height at which both are completed
-  carried : (r : ℤ) (k : ℕ) (a b : Module) → a.weights ≡ ws → b.weights ≡ ws → HasSteps d a → HasSteps d b → IsCompletedBelow d eta a (absolute_height d r) → IsCompletedBelow d eta b (absolute_height d r) → IsHuge d a r k → IsHuge d b r k
-  carried r k a b ea eb sa sb ca cb x = huge_same d loaded a b (eb ∙ sym ea) sa sb eta (absolute_height d r) ca cb r k (omega arith) x
+  carried : (r : ℤ) (k : ℕ) (a b : Module) → HasSimple d g ws a → HasSimple d g ws b → IsCompletedBelow d eta a (absolute_height d r) → IsCompletedBelow d eta b (absolute_height d r) → IsHuge d a r k → IsHuge d b r k
+  carried r k a b sa sb ca cb x = huge_same d loaded a b (alike a b sa sb) (simple_same d loaded g ws a b sa sb) eta (absolute_height d r) ca cb r k (omega arith) x
 
-  pub not_huge : (r : ℤ) (k : ℕ) (v : Module) → IsFirstHugeAlong d eta ws r k → v.weights ≡ ws → HasSteps d v → IsCompleted d eta v → ((q : ℤ) (j : ℕ) → ¬ IsHuge d v q j) → ⊥
-  not_huge r k v h e s c small = small r k (carried r k h.partial v h.weights e h.steps s h.completed (λ q low. c q) h.first.huge)
+  pub not_huge_from : (r : ℤ) (k : ℕ) (v : Module) → IsFirstHugeFrom d eta g ws r k → HasSimple d g ws v → IsCompleted d eta v → ((q : ℤ) (j : ℕ) → ¬ IsHuge d v q j) → ⊥
+  not_huge_from r k v h s c small = small r k (carried r k h.partial v h.simple s h.completed (λ q low. c q) h.first.huge)
 
-  pub not_before : (q r : ℤ) (j k : ℕ) → IsFirstHugeAlong d eta ws q j → IsFirstHugeAlong d eta ws r k → ¬ Precedes d q j r k
-  not_before q r j k a b p =
+  not_before_from : (q r : ℤ) (j k : ℕ) → IsFirstHugeFrom d eta g ws q j → IsFirstHugeFrom d eta g ws r k → ¬ Precedes d q j r k
+  not_before_from q r j k a b p =
       let low = precedes_low d q r j k p in
       b.first.before q j a.first.huge.lowering.from p
-      (carried q j a.partial b.partial a.weights b.weights a.steps b.steps a.completed (completed_less d eta b.partial (absolute_height d r) (absolute_height d q) low b.completed) a.first.huge)
+      (carried q j a.partial b.partial a.simple b.simple a.completed (completed_less d eta b.partial (absolute_height d r) (absolute_height d q) low b.completed) a.first.huge)
+
+  pub one_huge_from : (q r : ℤ) (j k : ℕ) → IsFirstHugeFrom d eta g ws q j → IsFirstHugeFrom d eta g ws r k → (q ≡ r) × (j ≡ k)
+  one_huge_from q r j k a b =
+      ⊎_elim (λ p. absurd (not_before_from q r j k a b p)) (λ p. ⊎_elim (λ l. absurd (not_before_from r q k j b a l)) (λ e. e) p) (trichotomy d q r j k a.first.huge.lowering.from b.first.huge.lowering.from)
+
+  pub one_made_from : (u v : Module) → HasSimple d g ws u → HasSimple d g ws v → IsCompleted d eta u → IsCompleted d eta v → u ≡ v
+  one_made_from u v su sv cu cv =
+      let same = alike v u sv su in
+      one_module d v u sv.shape su.shape same (λ r k n one. powers_same d loaded v u same (simple_same d loaded g ws v u sv su) eta (suc (absolute_height d r)) (λ q low. cv q) (λ q low. cu q) r k n (omega arith) one)
+
+-- ---- modules along the same weights
+module _ (d : RootDatum) (loaded : IsLoaded d) (eta : Signs) (ws : List Vector) where
+  pub not_huge : (r : ℤ) (k : ℕ) (v : Module) → IsFirstHugeAlong d eta ws r k → v.weights ≡ ws → HasSteps d v → IsCompleted d eta v → ((q : ℤ) (j : ℕ) → ¬ IsHuge d v q j) → ⊥
+  not_huge r k v h e s c small = not_huge_from d loaded eta (step_powers d ws) ws r k v (huge_from d eta ws r k h) (steps_simple d ws v e s) c small
+
+  pub not_before : (q r : ℤ) (j k : ℕ) → IsFirstHugeAlong d eta ws q j → IsFirstHugeAlong d eta ws r k → ¬ Precedes d q j r k
+  not_before q r j k a b p = not_before_from d loaded eta (step_powers d ws) ws q r j k (huge_from d eta ws q j a) (huge_from d eta ws r k b) p
 
   pub one_huge : (q r : ℤ) (j k : ℕ) → IsFirstHugeAlong d eta ws q j → IsFirstHugeAlong d eta ws r k → (q ≡ r) × (j ≡ k)
-  one_huge q r j k a b =
-      ⊎_elim (λ p. absurd (not_before q r j k a b p)) (λ p. ⊎_elim (λ l. absurd (not_before r q k j b a l)) (λ e. e) p) (trichotomy d q r j k a.first.huge.lowering.from b.first.huge.lowering.from)
+  one_huge q r j k a b = one_huge_from d loaded eta (step_powers d ws) ws q r j k (huge_from d eta ws q j a) (huge_from d eta ws r k b)
 
   pub one_made : (u v : Module) → u.weights ≡ ws → v.weights ≡ ws → HasSteps d u → HasSteps d v → IsCompleted d eta u → IsCompleted d eta v → u ≡ v
-  one_made u v eu ev su sv cu cv =
-      let same = eu ∙ sym ev in
-      one_module d v u sv.shape su.shape same (λ r k n one. powers_same d loaded v u same sv su eta (suc (absolute_height d r)) (λ q low. cv q) (λ q low. cu q) r k n (omega arith) one)
+  one_made u v eu ev su sv cu cv = one_made_from d loaded eta (step_powers d ws) ws u v (steps_simple d ws u eu su) (steps_simple d ws v ev sv) cu cv

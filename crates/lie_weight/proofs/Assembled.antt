@@ -1,19 +1,23 @@
 -- The weights and the matrices of all roots make the adjoint module.
-use Rattle.std.proofs.Common.{◌≡◌, ℕ, zero, suc, ◌*◌, ◌<◌, ◌≤◌, ℤ, pos, [], length, map, get_or, sym, ap, ap₂, subst, ◌∙◌, arith}
+use Rattle.std.proofs.Common.{◌≡◌, ℕ, zero, suc, ◌*◌, ◌<◌, ◌≤◌, ℤ, pos, [], length, map, get_or, sym, ap, ap₂, subst, ◌∙◌, arith, ⊎_elim, unsigned_abs}
 use Rattle.std.specs.List.{All, range_with_len}
 use Rattle.std.proofs.lemmas.List.Elements.{All-get_or, All-from_get_or}
-use Rattle.std.proofs.lemmas.List.FromFn.{length-map-range_with_len}
+use Rattle.std.proofs.lemmas.List.FromFn.{get_or-map-range_with_len, length-map-range_with_len}
+use Rattle.std.proofs.lemmas.List.{get_or-replicate, length-replicate}
 use Rattle.lie_ring.specs.Matrices.{table, entry, zero_matrix}
 use Rattle.lie_datum.specs.Numbers.{place, number_at}
-use Rattle.lie_datum.specs.RootList.{RootDatum, IsLoaded, IsNumber}
+use Rattle.lie_datum.specs.RootDatum.{IsWithin, vector}
+use Rattle.lie_datum.specs.RootList.{RootDatum, IsLoaded, IsNumber, root_of}
 use Rattle.lie_datum.proofs.LoadedLaws.{short}
 use Rattle.lie_datum.proofs.NumberLemmas.{place_within, numbered_at}
 use Rattle.lie_datum.proofs.SignedRoots.{same_place}
+use Rattle.lie_orbit.proofs.WeightLemmas.{within_more, root_within}
 use Rattle.lie_const.specs.StructureConstants.{Table}
 use Rattle.lie_const.specs.Modules.{Module, dimension, divided_powers, divided_power, top, IsModule}
 use Rattle.lie_const.specs.Adjoint.{IsAdjoint, adjoint_dimension, basis_vector, basis_weight}
 use Rattle.lie_weight.specs.Kept.{IsSquare, ArePowers, IsKeptModule}
 use Rattle.lie_weight.specs.AdjointParts.{IsDivided, AreDivided, AreAllDivided}
+use Rattle.lie_weight.proofs.BasisLemmas.{basis_cases}
 
 -- the number at the place of a root is its number
 pub number_place : (d : RootDatum) (r : ℤ) → IsNumber d r → number_at (length d.positive) (place (length d.positive) r) ≡ r
@@ -59,11 +63,24 @@ module _ (d : RootDatum) (loaded : IsLoaded d) (n : Table) (v : Module) (positiv
   pub adjoint_is : IsAdjoint d n v
   adjoint_is = record { is_module = module_is; weights = weights; powers = powers }
 
+  -- the roots are small weights
+  weight_within : (a : ℕ) → a < adjoint_dimension d → IsWithin 1000000 (basis_weight d (basis_vector d a))
+  weight_within a l = ⊎_elim
+      (λ (r : _). subst (λ t. IsWithin 1000000 (basis_weight d t)) (sym r.1.vector) (within_more 80000 1000000 (vector d.base (root_of d r.0)) (omega arith) (root_within d loaded r.0 r.1.number)))
+      (λ (i : _). subst (λ t. IsWithin 1000000 (basis_weight d t)) (sym i.1.vector) (λ k z m. subst (λ t. unsigned_abs t ≤ 1000000) (sym (get_or-replicate 8 k (pos 0) z (let e = length-replicate 8 (pos 0) in omega (arith, m, e)))) (omega arith)))
+      (basis_cases d a l)
+
+  light : All (IsWithin 1000000) v.weights
+  light = subst (All (IsWithin 1000000)) (sym weights) (All-from_get_or (IsWithin 1000000) (map (λ a. basis_weight d (basis_vector d a)) (range_with_len 0 (adjoint_dimension d))) [] (λ a l.
+      (let m : a < adjoint_dimension d = let e = length-map-range_with_len (λ a. basis_weight d (basis_vector d a)) 0 (adjoint_dimension d) in omega (arith, l, e) in
+      subst (IsWithin 1000000) (sym (get_or-map-range_with_len (λ a. basis_weight d (basis_vector d a)) 0 (adjoint_dimension d) a a [] m (omega arith))) (weight_within a m))))
+
   -- and is kept as it should be
   pub kept_is : length d.positive ≤ 120 → IsKeptModule v
   kept_is small = record {
     small = omega (arith, positive, small);
     narrow = let s = short d loaded in omega (arith, dim, small, s);
+    light = light;
     roots = let c = all.count in omega (arith, c, positive);
     powers = All-from_get_or (ArePowers (dimension v)) v.powers [] (λ i l. (let c = all.count in let p = all.each i (omega (arith, l, c)) in record {
       few = let f = p.few in omega (arith, f, dim, l, c);

@@ -21,7 +21,7 @@ use Rattle.lie_orbit.specs.Orbits.{start, IsOrbit, IsOrbitSize, IsOrbitFault}
 use Rattle.lie_orbit.specs.declared.faults.OrbitFault.{OrbitFault}
 use Rattle.lie_orbit.specs.declared.faults.OrbitFault.TheVariants as orbit
 use Rattle.lie_weight.specs.declared.faults.ModuleFault.{ModuleFault}
-use Rattle.lie_weight.specs.declared.faults.ModuleFault.TheVariants.{NoMemory, NotMinuscule, Wide, Heavy, Huge}
+use Rattle.lie_weight.specs.declared.faults.ModuleFault.TheVariants.{NoMemory, NotMinuscule, Table, Wide, Heavy, Huge}
 use Rattle.lie_weight.specs.Conjugation.{Precedes}
 use Rattle.lie_weight.specs.OrbitFaults.{IsHeavyWeight, IsHeavyAt, IsFirstHugeAlong, module_fault}
 use Rattle.lie_weight.specs.Along.{AreSteppable, IsMade, IsMadeAlong, IsFaultAlong, huge_place}
@@ -66,7 +66,7 @@ joined_more vs ws us os k o l e inv push =
     ∙ ap (λ t. vs ++ t) (sym (joined-last (take k os) o) ∙ ap (λ t. joined (take k os ++ t ∷ [])) (sym e) ∙ ap joined (sym (take_more os k [] l)))
 
 -- ---- weights that are not heavy
-light_coordinates : (x : Vector) → ¬ IsHeavyWeight x → IsWithin 1000000 x
+pub light_coordinates : (x : Vector) → ¬ IsHeavyWeight x → IsWithin 1000000 x
 light_coordinates x h k z l = elim (cases_lt 1000000 (unsigned_abs (get_or x k z))) [
   | inl heavy ↦ absurd (h (k, get_or x k z, l, sym (get_or_default x k z (get_or x k z) l), heavy))
   | inr light ↦ light
@@ -98,7 +98,7 @@ all_steppable d loaded n os vs ws h e light k z l =
 
 -- ---- the order of places
 module _ (d : RootDatum) where
-  precedes-trans : (p q r : ℤ) (i j k : ℕ) → Precedes d p i q j → Precedes d q j r k → Precedes d p i r k
+  pub precedes-trans : (p q r : ℤ) (i j k : ℕ) → Precedes d p i q j → Precedes d q j r k → Precedes d p i r k
   precedes-trans p q r i j k (inl a) (inl b) = inl (omega (arith, a, b))
   precedes-trans p q r i j k (inl a) (inr b) = let e = b.0 in inl (omega (arith, a, e))
   precedes-trans p q r i j k (inr a) (inl b) = let e = a.0 in inl (omega (arith, b, e))
@@ -111,7 +111,7 @@ module _ (d : RootDatum) where
       later (inr x) (inl y) = inl (subst (λ t. place (length d.positive) t < place (length d.positive) r) (sym x.0) y)
       later (inr x) (inr y) = let u = x.1 in let v = y.1 in inr (x.0 ∙ y.0, omega (arith, u, v))
 
-  not_itself : (r : ℤ) (k : ℕ) → ¬ Precedes d r k r k
+  pub not_itself : (r : ℤ) (k : ℕ) → ¬ Precedes d r k r k
   not_itself r k (inl a) = absurd (omega (arith, a))
   not_itself r k (inr a) = ⊎_elim (λ l. absurd (omega (arith, l))) (λ l. absurd (let m = l.1 in omega (arith, m))) a.1
 
@@ -208,6 +208,7 @@ module _ (d : RootDatum) (loaded : IsLoaded d) (eta : Signs) where
         pub making_fault : (e : ModuleFault) → IsMakingFault d eta os e → LoadsCarrier d eta adjoint (Err e)
         making_fault NoMemory h = tt
         making_fault (NotMinuscule r) h = absurd h
+        making_fault (Table n) h = absurd h
         making_fault (Wide n) h = absurd h
         making_fault (Heavy b) h = absurd h
         making_fault (Huge r k) h = (light_carrier, huge_carrier r k h)
@@ -261,6 +262,7 @@ all_few d eta adjoint os vs ws made e few = let m = ap (λ t. length (adjoint.we
 pub listing_loads : (d : RootDatum) (eta : Signs) (adjoint : Module) (e : ModuleFault) → IsListingFault d e → LoadsCarrier d eta adjoint (Err e)
 listing_loads d eta adjoint NoMemory h = tt
 listing_loads d eta adjoint (NotMinuscule r) h = absurd h
+listing_loads d eta adjoint (Table n) h = absurd h
 listing_loads d eta adjoint (Wide n) h = h
 listing_loads d eta adjoint (Heavy a) h = absurd h
 listing_loads d eta adjoint (Huge r k) h = absurd h
@@ -270,5 +272,6 @@ pub huge_is : (d : RootDatum) (eta : Signs) (ws : List Vector) (e : ModuleFault)
 huge_is d eta ws (Huge r k) p h e = let f : p ≡ (r, k) = cc in subst (λ t. IsFirstHugeAlong d eta ws t.0 t.1) (sym f) h
 huge_is d eta ws NoMemory p h e = absurd (cc)
 huge_is d eta ws (NotMinuscule r) p h e = absurd h
+huge_is d eta ws (Table n) p h e = absurd h
 huge_is d eta ws (Wide n) p h e = absurd h
 huge_is d eta ws (Heavy a) p h e = absurd h

@@ -1,6 +1,5 @@
--- How the module of an orbit is completed at one root, and what stays at the others.
+-- How a module is completed at one root, and what stays at the others.
 use Rattle.std.proofs.Common.{◌≡◌, ◌≢◌, ℕ, zero, suc, ◌+◌, ◌-◌, ◌*◌, ◌<◌, ◌≤◌, ℤ, pos, negsuc, neg_ℤ, ◌+ℤ◌, nat_abs, unsigned_abs, List, length, get_or, refl, sym, ap, subst, ◌∙◌, arith, ◌⊎◌, inl, inr, ⊎_elim, cond, eqb}
-use Rattle.std.proofs.lemmas.Int.{ints}
 use Rattle.lie_ring.specs.Rings.{sum_below}
 use Rattle.lie_ring.specs.Integers.{integers}
 use Rattle.lie_ring.specs.Powers.{power}
@@ -15,15 +14,13 @@ use Rattle.lie_datum.proofs.VectorLemmas.{abs_neg}
 use Rattle.lie_const.specs.Modules.{Module, dimension, divided_powers, divided_power, root_element, weyl_element, weyl_inverse}
 use Rattle.lie_const.specs.Signs.{Signs}
 use Rattle.lie_weight.specs.declared.factors.Factors.{Factors}
-use Rattle.lie_weight.specs.OrbitModules.{step_matrix, StepsBy, HasSteps}
 use Rattle.lie_mat.specs.Wide.{IsHugeMatrix}
 use Rattle.lie_weight.specs.Conjugation.{absolute_height, reflected_height, IsLowering, conjugated, IsConjugate, IsCompletedAt, absolute_element, absolute_weyl, work, IsHuge, IsFirstHuge, IsCompletedBelow}
-use Rattle.lie_weight.specs.Factors.{IsOfSize, AreFactors, AreModuleFactors, work_on}
-use Rattle.lie_weight.specs.Completion.{Keeps, with_powers, IsSingle, IsStepped, IsBefore, IsPartly, AreAllFactors}
+use Rattle.lie_weight.specs.Factors.{AreFactors, AreModuleFactors, work_on, HasSmallWork, IsFirstHugePower, conjugate_power}
+use Rattle.lie_weight.specs.Completion.{KeepsAll, with_powers, IsDraft, Extends, IsBefore, IsPartly, AreAllFactors}
 use Rattle.lie_orbit.proofs.WeightLemmas.{simple_some}
 use Rattle.lie_weight.proofs.StepLemmas.{negative_some}
-use Rattle.lie_weight.proofs.FactorLemmas.{zero_not_huge, work_zero, conjugate_zero}
-use Rattle.lie_weight.proofs.DraftLemmas.{number_cases, powers_other, first_same, written_single, single_zero}
+use Rattle.lie_weight.proofs.DraftLemmas.{number_cases, powers_other, written_power, written_draft}
 
 -- ---- a root is lowered in one way
 module _ (d : RootDatum) (loaded : IsLoaded d) (r : ℤ) where
@@ -144,23 +141,13 @@ past_simple d r l i s e = let h = ap unsigned_abs e in let k = s.1 in absurd (om
 past_negative : (d : RootDatum) (r : ℤ) → rank d.base < unsigned_abs r → (i : ℕ) → IsSimpleIndex d.base i → neg_ℤ (pos i) ≢ r
 past_negative d r l i s e = let h = ap unsigned_abs e in let k = s.1 in let m = abs_neg (pos i) in absurd (omega (arith, h, k, l, m))
 
-steps_agree : (d : RootDatum) (v w : Module) → w.weights ≡ v.weights → (q : ℤ) → AgreeAt v w q → StepsBy d v q → StepsBy d w q
-steps_agree d v w same q e s = record {
-  first = power_same' q 1 (omega arith) e ∙ s.first ∙ ap (λ ws. step_matrix d ws q) (sym same);
-  others = λ k l. power_same' q k (omega (arith, l)) e ∙ s.others k l ∙ ap (λ n. zero_matrix (pos 0) n n) (sym (ap length same));
-}
-  where
-    power_same' : (p : ℤ) (k : ℕ) → 1 ≤ k → AgreeAt v w p → divided_power w p k ≡ divided_power v p k
-    power_same' p zero l e = absurd (omega (arith, l))
-    power_same' p (suc k) l e = ap (λ n. get_or (divided_powers w p) k (zero_matrix (pos 0) n n)) (ap length same) ∙ ap (λ Ms. get_or Ms k (zero_matrix (pos 0) (dimension v) (dimension v))) e
-
 -- the factors stay where the matrices of the simple roots do
-module _ (d : RootDatum) (loaded : IsLoaded d) (v : Module) (single : IsSingle d v) (r : ℤ) (number : IsNumber d r) (past : rank d.base < unsigned_abs r) (Ms : List (Matrix ℤ)) where
+module _ (d : RootDatum) (loaded : IsLoaded d) (v : Module) (draft : IsDraft d v) (r : ℤ) (number : IsNumber d r) (past : rank d.base < unsigned_abs r) (Ms : List (Matrix ℤ)) where
   abbrev u : Module
   u = with_powers v r Ms
 
   agree : (q : ℤ) → IsNumber d q → q ≢ r → AgreeAt v u q
-  agree q n ne = ⊎_elim (λ e. absurd (ne e)) (λ o. powers_other d v single r number Ms q o) (number_cases d q r n number)
+  agree q n ne = ⊎_elim (λ e. absurd (ne e)) (λ o. powers_other d v draft r number Ms q o) (number_cases d q r n number)
 
   agree_up : (i : ℕ) → IsSimpleIndex d.base i → AgreeAt v u (pos i)
   agree_up i s = agree (pos i) (simple_some d loaded i s) (past_simple d r past i s)
@@ -191,35 +178,29 @@ module _ (d : RootDatum) (loaded : IsLoaded d) (v : Module) (single : IsSingle d
         })
 
   -- the root itself
-  module _ (eta : Signs) (i : ℕ) (s : ℤ) (l : IsLowering d i r s) (f : Factors) (factors : AreModuleFactors v i f) (M : Matrix ℤ) (keeps : Keeps (dimension v) M Ms)
-      (is : M ≡ scaled integers (eta i s) (product integers (product integers f.element (divided_power v s 1)) f.inverse)) (small : ¬ IsHugeMatrix (work_on f.absolute (divided_power v s 1))) where
+  module _ (eta : Signs) (i : ℕ) (s : ℤ) (l : IsLowering d i r s) (f : Factors) (factors : AreModuleFactors v i f) (keeps : KeepsAll (dimension v) (conjugate_power f (eta i s) v s) Ms) (small : HasSmallWork f v s) where
     s_other : s ≢ r
     s_other e = let h = lowered_below d loaded r i s l in let k = ap (absolute_height d) e in absurd (omega (arith, h, k))
 
     same_s : AgreeAt v u s
     same_s = agree s l.number s_other
 
-    u_single : IsSingle d u
-    u_single = written_single d v single r number Ms M keeps
+    u_draft : IsDraft d u
+    u_draft = written_draft d v draft r number Ms (conjugate_power f (eta i s) v s) keeps
 
     u_factors : AreModuleFactors u i f
     u_factors = module_factors_same v u refl i (agree_up i l.index) (agree_down i l.index) f factors
 
-    one_power : (a : ℤ) → a ≡ power integers a 1
-    one_power a = omega (arith, ints)
+    s_power : (k : ℕ) → divided_power u s (suc k) ≡ divided_power v s (suc k)
+    s_power k = ap (λ Ns. get_or Ns k (zero_matrix (pos 0) (dimension v) (dimension v))) same_s
 
     conjugate_at : (k : ℕ) → 1 ≤ k → IsConjugate eta u i r s k
     conjugate_at zero a = absurd (omega (arith, a))
-    conjugate_at (suc zero) a =
-        first_same d v single r number Ms M keeps ∙ is
-        ∙ ap (λ c. scaled integers c (product integers (product integers f.element (divided_power v s 1)) f.inverse)) (one_power (eta i s))
-        ∙ ap (λ A. scaled integers (power integers (eta i s) 1) (product integers (product integers A (divided_power v s 1)) f.inverse)) u_factors.element
-        ∙ ap (λ B. scaled integers (power integers (eta i s) 1) (product integers (product integers (weyl_element integers u i) (divided_power v s 1)) B)) u_factors.inverse
-        ∙ ap (λ E. scaled integers (power integers (eta i s) 1) (conjugated u i E)) (sym (ap (λ Ns. get_or Ns 0 (zero_matrix (pos 0) (dimension v) (dimension v))) same_s))
-    conjugate_at (suc (suc k)) a =
-        single_zero u r (u_single.single r number) (suc (suc k)) (omega arith)
-        ∙ sym (conjugate_zero (dimension v) (weyl_element integers u i) (weyl_inverse integers u i) (power integers (eta i s) (suc (suc k))) (subst (IsOfSize (dimension v)) u_factors.element u_factors.factors.element_size) (subst (IsOfSize (dimension v)) u_factors.inverse u_factors.factors.inverse_size))
-        ∙ ap (λ E. scaled integers (power integers (eta i s) (suc (suc k))) (conjugated u i E)) (sym (single_zero u s (u_single.single s l.number) (suc (suc k)) (omega arith)))
+    conjugate_at (suc k) a =
+        written_power d v draft r number Ms (conjugate_power f (eta i s) v s) keeps k
+        ∙ ap (λ A. scaled integers (power integers (eta i s) (suc k)) (product integers (product integers A (divided_power v s (suc k))) f.inverse)) u_factors.element
+        ∙ ap (λ B. scaled integers (power integers (eta i s) (suc k)) (product integers (product integers (weyl_element integers u i) (divided_power v s (suc k))) B)) u_factors.inverse
+        ∙ ap (λ E. scaled integers (power integers (eta i s) (suc k)) (conjugated u i E)) (sym (s_power k))
 
     completed_new : IsCompletedAt d eta u r
     completed_new j t k a one =
@@ -227,10 +208,8 @@ module _ (d : RootDatum) (loaded : IsLoaded d) (v : Module) (single : IsSingle d
 
     work_at : (k : ℕ) → 1 ≤ k → ¬ IsHugeMatrix (work u i s k)
     work_at zero a = absurd (omega (arith, a))
-    work_at (suc zero) a =
-        subst (λ t. ¬ IsHugeMatrix t) (sym (ap (λ A. work_on A (divided_power u s 1)) (sym u_factors.absolute) ∙ ap (λ E. work_on f.absolute E) (ap (λ Ns. get_or Ns 0 (zero_matrix (pos 0) (dimension v) (dimension v))) same_s))) small
-    work_at (suc (suc k)) a =
-        subst (λ t. ¬ IsHugeMatrix t) (sym (ap (work_on (absolute_weyl u i)) (single_zero u s (u_single.single s l.number) (suc (suc k)) (omega arith)) ∙ work_zero (dimension v) (absolute_weyl u i) (subst (IsOfSize (dimension v)) u_factors.absolute u_factors.factors.absolute_size))) (zero_not_huge (dimension v))
+    work_at (suc k) a =
+        subst (λ t. ¬ IsHugeMatrix t) (sym (ap (λ A. work_on A (divided_power u s (suc k))) (sym u_factors.absolute) ∙ ap (λ E. work_on f.absolute E) (s_power k))) (small k)
 
     small_new : (k : ℕ) → ¬ IsHuge d u r k
     small_new k x =
@@ -244,21 +223,18 @@ module _ (d : RootDatum) (loaded : IsLoaded d) (v : Module) (single : IsSingle d
 
     pub partly_new : IsPartly d eta (absolute_height d r) (place (length d.positive) r) v → IsPartly d eta (absolute_height d r) (place (length d.positive) r + 1) u
     partly_new p = record {
-      steps = record {
-        shape = u_single.shape;
-        up = λ j x. steps_agree d v u refl (pos j) (agree_up j x) (p.steps.up j x);
-        down = λ j x. steps_agree d v u refl (neg_ℤ (pos j)) (agree_down j x) (p.steps.down j x);
-      };
-      single = u_single.single;
+      draft = u_draft;
       completed = λ q n b. ⊎_elim (λ e. subst (IsCompletedAt d eta u) (sym e) completed_new) (λ o. completed_kept eta q n o.0 (low_from q o.1) (p.completed q n o.1)) (before_or q n b);
       small = λ q k n b. ⊎_elim (λ e. subst (λ (t : ℤ). ¬ IsHuge d u t k) (sym e) (small_new k)) (λ o. small_kept eta q n o.0 (low_from q o.1) k (p.small q k n o.1)) (before_or q n b);
     }
 
+    pub extends_new : Extends d v u
+    extends_new = record { shape = u_draft.shape; weights = refl; up = agree_up; down = agree_down }
+
 -- a root that no simple reflection lowers
 pub partly_none : (d : RootDatum) (eta : Signs) (v : Module) (r : ℤ) → IsNumber d r → ((i : ℕ) (s : ℤ) → ¬ IsLowering d i r s) → IsPartly d eta (absolute_height d r) (place (length d.positive) r) v → IsPartly d eta (absolute_height d r) (place (length d.positive) r + 1) v
 partly_none d eta v r number none p = record {
-  steps = p.steps;
-  single = p.single;
+  draft = p.draft;
   completed = λ q n b. ⊎_elim (λ e. subst (IsCompletedAt d eta v) (sym e) (λ i s k l one. absurd (none i s l))) (λ o. p.completed q n (old q o b)) (number_cases d q r n number);
   small = λ q k n b. ⊎_elim (λ e. subst (λ (t : ℤ). ¬ IsHuge d v t k) (sym e) (λ x. none x.index x.lowered x.lowering)) (λ o. p.small q k n (old q o b)) (number_cases d q r n number);
 }
@@ -267,15 +243,32 @@ partly_none d eta v r number none p = record {
     old q o b = ⊎_elim (λ h. inl h) (λ h. inr (h.0, (let m = h.1 in omega (arith, m, o)))) b
 
 -- a root whose work is huge is the first
-pub first_huge : (d : RootDatum) (eta : Signs) (v : Module) (r : ℤ) (i : ℕ) (s : ℤ) → IsLowering d i r s → IsHugeMatrix (work v i s 1) → IsPartly d eta (absolute_height d r) (place (length d.positive) r) v → HasSteps d v × IsCompletedBelow d eta v (absolute_height d r) × IsFirstHuge d v r 1
-first_huge d eta v r i s l huge p = (
-  p.steps,
+pub first_huge : (d : RootDatum) → IsLoaded d → (eta : Signs) (v : Module) (r : ℤ) (i : ℕ) (s : ℤ) (k : ℕ) (f : Factors) → IsLowering d i r s → AreModuleFactors v i f → IsFirstHugePower f v s k → IsPartly d eta (absolute_height d r) (place (length d.positive) r) v → IsCompletedBelow d eta v (absolute_height d r) × IsFirstHuge d v r k
+first_huge d loaded eta v r i s k f l factors huge p = (
   (λ q low j t k a one. p.completed q a.from (inl low) j t k a one),
   record {
-    huge = record { index = i; lowered = s; lowering = l; first = omega arith; work = huge };
-    before = λ q j n b. ⊎_elim (λ h. p.small q j n (inl h)) (λ h. ⊎_elim (λ m. p.small q j n (inr (h.0, m))) (λ m x. absurd (let a = x.first in let z = m.1 in omega (arith, a, z))) h.1) b;
+    huge = record { index = i; lowered = s; lowering = l; first = huge.first; work = subst (λ A. IsHugeMatrix (work_on A (divided_power v s k))) factors.absolute huge.huge };
+    before = λ q j n b. ⊎_elim (λ h. p.small q j n (inl h)) (λ h. ⊎_elim (λ m. p.small q j n (inr (h.0, m))) (λ m x. at q j m.0 m.1 x) h.1) b;
   },
 )
+  where
+    at : (q : ℤ) (j : ℕ) → q ≡ r → j < k → ¬ IsHuge d v q j
+    at q j e m x =
+        let y : IsLowering d x.index r x.lowered = subst (λ (t : ℤ). IsLowering d x.index t x.lowered) e x.lowering in
+        huge.before j x.first m (subst (λ A. IsHugeMatrix (work_on A (divided_power v s j))) (sym factors.absolute)
+        (subst (λ (t : ℕ). IsHugeMatrix (work v t s j)) (sym (one_index d loaded r i x.index s x.lowered l y)) (subst (λ (t : ℤ). IsHugeMatrix (work v x.index t j)) (sym (one_lowered d loaded r i x.index s x.lowered l y)) x.work)))
+
+-- ---- a module extends another
+pub extends_refl : (d : RootDatum) (v : Module) → IsDraft d v → Extends d v v
+extends_refl d v s = record { shape = s.shape; weights = refl; up = λ i x. refl; down = λ i x. refl }
+
+pub extends_trans : (d : RootDatum) (u v w : Module) → Extends d u v → Extends d v w → Extends d u w
+extends_trans d u v w a b = record {
+  shape = b.shape;
+  weights = b.weights ∙ a.weights;
+  up = λ i x. b.up i x ∙ a.up i x;
+  down = λ i x. b.down i x ∙ a.down i x;
+}
 
 -- ---- the order in which the roots are completed
 module _ (d : RootDatum) (eta : Signs) where
@@ -288,8 +281,7 @@ module _ (d : RootDatum) (eta : Signs) where
   -- a root of another height, or one that is not lowered, needs nothing
   pub partly_skip : (h p : ℕ) (v : Module) (r : ℤ) → IsNumber d r → place (length d.positive) r ≡ p → (absolute_height d r ≡ h → (i : ℕ) (s : ℤ) → ¬ IsLowering d i r s) → IsPartly d eta h p v → IsPartly d eta h (p + 1) v
   partly_skip h p v r number f none a = record {
-    steps = a.steps;
-    single = a.single;
+    draft = a.draft;
     completed = λ q n b. ⊎_elim (λ e. ⊎_elim (λ l. a.completed q n (inl l)) (λ l i s k x one. absurd (none (ap (absolute_height d) (sym e) ∙ l.0) i s (subst (λ (t : ℤ). IsLowering d i t s) e x))) b) (λ o. a.completed q n (old q o b)) (number_cases d q r n number);
     small = λ q k n b. ⊎_elim (λ e. ⊎_elim (λ l. a.small q k n (inl l)) (λ l x. none (ap (absolute_height d) (sym e) ∙ l.0) x.index x.lowered (subst (λ (t : ℤ). IsLowering d x.index t x.lowered) e x.lowering)) b) (λ o. a.small q k n (old q o b)) (number_cases d q r n number);
   }
@@ -300,8 +292,7 @@ module _ (d : RootDatum) (eta : Signs) where
   -- all places of a height, and the start
   pub partly_level : (h p : ℕ) (v : Module) → 2 * length d.positive ≤ p → IsPartly d eta h p v → IsPartly d eta (h + 1) 0 v
   partly_level h p v l a = record {
-    steps = a.steps;
-    single = a.single;
+    draft = a.draft;
     completed = λ q n b. a.completed q n (level q n b);
     small = λ q k n b. a.small q k n (level q n b);
   }
@@ -309,10 +300,9 @@ module _ (d : RootDatum) (eta : Signs) where
       level : (q : ℤ) → IsNumber d q → IsBefore d (h + 1) 0 q → IsBefore d h p q
       level q n b = ⊎_elim (λ m. ⊎_elim (λ x. inl x) (λ x. inr ((let e : absolute_height d q ≡ h = omega (arith, m, x) in e), (let w = (place_within d q n).2 in omega (arith, w, l)))) (within_or_past (absolute_height d q) h)) (λ m. absurd (let x = m.1 in omega (arith, x))) b
 
-  pub partly_start : (v : Module) → IsStepped d (rank d.base) v → IsPartly d eta 0 0 v
+  pub partly_start : (v : Module) → IsDraft d v → IsPartly d eta 0 0 v
   partly_start v s = record {
-    steps = record { shape = s.single.shape; up = λ i x. s.up i x x.1; down = λ i x. s.down i x x.1 };
-    single = s.single.single;
+    draft = s;
     completed = λ q n b. absurd (none q b);
     small = λ q k n b. absurd (none q b);
   }

@@ -1,23 +1,20 @@
 -- The matrices that conjugate root vectors: their sizes, and that the work on a matrix bounds its conjugate.
-use Rattle.std.proofs.Common.{◌≡◌, [], ℕ, ◌^◌, ◌<◌, ◌≤◌, ℤ, pos, negsuc, ◌+ℤ◌, ◌*ℤ◌, nat_abs, refl, sym, ap, subst, ◌∙◌, arith, ◌⊎◌, ⊎_elim, cond, eqb, Bool, true, false}
-use Rattle.std.proofs.lemmas.Int.{ints, unsigned_abs-mul}
-use Rattle.std.proofs.lemmas.Bool.Decides.{nat_tests}
+use Rattle.std.proofs.Common.{◌≡◌, ℕ, ◌^◌, ◌<◌, ◌≤◌, ℤ, pos, ◌*ℤ◌, nat_abs, refl, sym, ap, subst, ◌∙◌, arith, ⊎_elim}
+use Rattle.std.proofs.lemmas.Int.{ints}
 use Rattle.lie_ring.specs.Rings.{Fits}
 use Rattle.lie_ring.specs.Integers.{integers}
 use Rattle.lie_ring.specs.IntegerLaws.{integers_ring}
-use Rattle.lie_ring.specs.Matrices.{Matrix, entry, product, scaled, zero_matrix, AllElem, AllFit}
+use Rattle.lie_ring.specs.Matrices.{Matrix, entry, product, scaled, zero_matrix, AllElem, AllFit, IsShaped}
 use Rattle.lie_ring.specs.MatrixLemmas.{entry-table, table-same, table-shaped}
 use Rattle.lie_ring.specs.MatrixLaws.{zero-product, product-zero}
 use Rattle.lie_weight.specs.Kept.{IsSquare}
-use Rattle.lie_weight.specs.Completion.{Keeps}
 use Rattle.lie_mat.specs.Wide.{product_size, IsWideProduct}
 use Rattle.lie_datum.proofs.Entries.{within_or_past}
-use Rattle.lie_datum.proofs.VectorLemmas.{abs_add}
 use Rattle.lie_weight.specs.declared.factors.Factors.{Factors}
 use Rattle.lie_mat.specs.Wide.{IsHugeMatrix}
 use Rattle.lie_weight.specs.Conjugation.{absolute}
-use Rattle.lie_weight.specs.Factors.{IsOfSize, IsBelow, IsNatural, HasDiagonal, IsBoundedBy, IsStepping, one_plus, one_plus_entry, sandwich, work_on, AreFactors, AreFactorsOf}
-use Rattle.lie_weight.proofs.SizeLemmas.{product-size, product_size-mono, natural_size, natural-product, below-product, grows_right, diagonal-product, bounded-product, wide_size, not_wide}
+use Rattle.lie_weight.specs.Factors.{IsOfSize, IsBelow, IsNatural, IsBoundedBy, sandwich, work_on, AreFactors}
+use Rattle.lie_weight.proofs.SizeLemmas.{product-size, product_size-mono, natural_size, natural-product, below-product, grows_right, bounded-product, wide_size, not_wide}
 
 -- ---- the absolute values of a matrix
 module _ (n : ℕ) (M : Matrix ℤ) (size : IsOfSize n M) where
@@ -33,70 +30,21 @@ module _ (n : ℕ) (M : Matrix ℤ) (size : IsOfSize n M) where
   pub below_absolute : IsBelow n M (absolute M)
   below_absolute i j a b = let e = ap nat_abs (entry-absolute i j a b) in omega (arith, e)
 
--- ---- 1 + c M
-module _ (n : ℕ) (M : Matrix ℤ) (step : IsStepping n M) where
-  pub one_plus-size : (c : ℤ) → IsOfSize n (one_plus c M)
-  one_plus-size c = record { height = step.size.height; width = step.size.height }
-
-  entry-one_plus : (c : ℤ) (i j : ℕ) → i < n → j < n → entry (pos 0) (one_plus c M) i j ≡ one_plus_entry c M i j
-  entry-one_plus c i j a b = entry-table (pos 0) M.height M.height (one_plus_entry c M) i j (subst (λ t. i < t) (sym step.size.height) a) (subst (λ t. j < t) (sym step.size.height) b)
-
-  -- with c = 1 no entry is below 0, and the diagonal is 1 at least
-  natural_one : (t : Bool) (e : ℤ) → e ≡ pos (nat_abs e) → (cond t (pos 1) (pos 0) +ℤ pos 1 *ℤ e) ≡ pos (nat_abs (cond t (pos 1) (pos 0) +ℤ pos 1 *ℤ e))
-  natural_one true (pos k) h = refl
-  natural_one false (pos k) h = refl
-  natural_one t (negsuc k) h = absurd (cc h)
-
-  pub one_plus_natural : IsNatural n (one_plus (pos 1) M)
-  one_plus_natural i j a b =
-      let e = entry-one_plus (pos 1) i j a b in
-      e ∙ natural_one (eqb i j) (entry (pos 0) M i j) (step.natural i j a b) ∙ ap (λ t. pos (nat_abs t)) (sym e)
-
-  diagonal_one : (j : ℕ) (e : ℤ) → e ≡ pos (nat_abs e) → 1 ≤ nat_abs (cond (eqb j j) (pos 1) (pos 0) +ℤ pos 1 *ℤ e)
-  diagonal_one j (pos k) h = grind (arith, nat_tests)
-  diagonal_one j (negsuc k) h = absurd (cc h)
-
-  pub one_plus_diagonal : HasDiagonal n (one_plus (pos 1) M)
-  one_plus_diagonal j l = subst (λ t. 1 ≤ nat_abs t) (sym (entry-one_plus (pos 1) j j l l)) (diagonal_one j (entry (pos 0) M j j) (step.natural j j l l))
-
-  -- with c = -1 the absolute values are at most as large
-  less_one : (t : Bool) (e : ℤ) → e ≡ pos (nat_abs e) → nat_abs (cond t (pos 1) (pos 0) +ℤ negsuc 0 *ℤ e) ≤ nat_abs (cond t (pos 1) (pos 0) +ℤ pos 1 *ℤ e)
-  less_one true (pos k) h = let a = abs_add (pos 1) (negsuc 0 *ℤ pos k) in let b = unsigned_abs-mul (negsuc 0) (pos k) in omega (arith, a, b)
-  less_one false (pos k) h = let a = abs_add (pos 0) (negsuc 0 *ℤ pos k) in let b = unsigned_abs-mul (negsuc 0) (pos k) in omega (arith, a, b)
-  less_one t (negsuc k) h = absurd (cc h)
-
-  pub one_less_below : IsBelow n (one_plus (negsuc 0) M) (one_plus (pos 1) M)
-  one_less_below i j a b =
-      let e = ap nat_abs (entry-one_plus (negsuc 0) i j a b) in
-      let f = ap nat_abs (entry-one_plus (pos 1) i j a b) in
-      let h = less_one (eqb i j) (entry (pos 0) M i j) (step.natural i j a b) in
-      omega (arith, e, f, h)
-
-  two_at_most : (t : Bool) (e : ℤ) → nat_abs e ≤ 1 → nat_abs (cond t (pos 1) (pos 0) +ℤ pos 1 *ℤ e) ≤ 2
-  two_at_most true e h = let a = abs_add (pos 1) (pos 1 *ℤ e) in let b = unsigned_abs-mul (pos 1) e in omega (arith, a, b, h)
-  two_at_most false e h = let a = abs_add (pos 0) (pos 1 *ℤ e) in let b = unsigned_abs-mul (pos 1) e in omega (arith, a, b, h)
-
-  pub one_plus_bounded : IsBoundedBy n 2 (one_plus (pos 1) M)
-  one_plus_bounded i j a b =
-      let f = ap nat_abs (entry-one_plus (pos 1) i j a b) in
-      let h = two_at_most (eqb i j) (entry (pos 0) M i j) (step.small i j a b) in
-      omega (arith, f, h)
-
 -- ---- products of three
-below_itself : (n : ℕ) (A : Matrix ℤ) → IsBelow n A A
+pub below_itself : (n : ℕ) (A : Matrix ℤ) → IsBelow n A A
 below_itself n A i j a b = omega arith
 
-module _ (n : ℕ) (few : n ≤ 1024) (A B P Q : Matrix ℤ) (sA : IsOfSize n A) (sB : IsOfSize n B) (sP : IsOfSize n P) (sQ : IsOfSize n Q) (nA : IsNatural n A) (nB : IsNatural n B) (bA : IsBoundedBy n 2 A) (bB : IsBoundedBy n 2 B) (PA : IsBelow n P A) (QB : IsBelow n Q B) where
+module _ (n : ℕ) (few : n ≤ 1024) (A B P Q : Matrix ℤ) (sA : IsOfSize n A) (sB : IsOfSize n B) (sP : IsOfSize n P) (sQ : IsOfSize n Q) (nA : IsNatural n A) (nB : IsNatural n B) (bA : IsBoundedBy n 1601 A) (bB : IsBoundedBy n 1601 B) (PA : IsBelow n P A) (QB : IsBelow n Q B) where
   -- the inner product is small
-  pub inner_small : (i j : ℕ) → i < n → j < n → product_size integers Q P i j ≤ 4096
+  pub inner_small : (i j : ℕ) → i < n → j < n → product_size integers Q P i j ≤ 2624717824
   inner_small i j a b =
       let m = product_size-mono n Q P B A sQ sB QB PA i j a b in
-      let h = bounded-product n 2 2 B A sB bB bA i j a b in
+      let h = bounded-product n 1601 1601 B A sB bB bA i j a b in
       omega (arith, m, h, few)
 
-  inner_bounded : IsBoundedBy n 4096 (product integers B A)
+  inner_bounded : IsBoundedBy n 2624717824 (product integers B A)
   inner_bounded i j a b =
-      let h = bounded-product n 2 2 B A sB bB bA i j a b in
+      let h = bounded-product n 1601 1601 B A sB bB bA i j a b in
       let e = natural_size n B A sB sA nB nA i j a b in
       omega (arith, h, e, few)
 
@@ -104,10 +52,10 @@ module _ (n : ℕ) (few : n ≤ 1024) (A B P Q : Matrix ℤ) (sA : IsOfSize n A)
   inner_below = below-product n Q P B A sQ sP sB sA nB nA QB PA
 
   -- and so is the outer one
-  pub outer_small : (i j : ℕ) → i < n → j < n → product_size integers P (product integers Q P) i j ≤ 8388608
+  pub outer_small : (i j : ℕ) → i < n → j < n → product_size integers P (product integers Q P) i j ≤ 4303025393893376
   outer_small i j a b =
       let m = product_size-mono n P (product integers Q P) A (product integers B A) sP sA PA inner_below i j a b in
-      let h = bounded-product n 2 4096 A (product integers B A) sA bA inner_bounded i j a b in
+      let h = bounded-product n 1601 2624717824 A (product integers B A) sA bA inner_bounded i j a b in
       omega (arith, m, h, few)
 
   pub inner_narrow : ¬ IsWideProduct integers Q P
@@ -175,64 +123,6 @@ module _ (n : ℕ) (w : Factors) (f : AreFactors n w) (M : Matrix ℤ) (size : I
         let s = work_small i j a b in
         omega (arith, m, e, s)))
 
--- ---- the factors of steps
-module _ (n : ℕ) (few : n ≤ 1024) (M L : Matrix ℤ) (up : IsStepping n M) (down : IsStepping n L) where
-  abbrev A : Matrix ℤ
-  A = one_plus (pos 1) M
-
-  abbrev B : Matrix ℤ
-  B = one_plus (pos 1) L
-
-  pub factors_from_steps : (w : Factors) → AreFactorsOf M L w → AllFit integers w.element → AllFit integers w.inverse → AllFit integers w.absolute → AreFactors n w
-  factors_from_steps w is e i a =
-      let sA = one_plus-size n M up (pos 1) in
-      let sB = one_plus-size n L down (pos 1) in
-      let sA' = one_plus-size n M up (negsuc 0) in
-      let sB' = one_plus-size n L down (negsuc 0) in
-      let nA = one_plus_natural n M up in
-      let nB = one_plus_natural n L down in
-      let bA = one_plus_bounded n M up in
-      let bB = one_plus_bounded n L down in
-      let inner = product-size n B A sB sA in
-      let natural = natural-product n A (product integers B A) sA inner nA (natural-product n B A sB sA nB nA) in
-      let diagonal = diagonal-product n A (product integers B A) sA inner nA (natural-product n B A sB sA nB nA) (one_plus_diagonal n M up) (diagonal-product n B A sB sA nB nA (one_plus_diagonal n L down) (one_plus_diagonal n M up)) in
-      let below1 = sandwich_below n few A B A (one_plus (negsuc 0) L) sA sB sA sB' nA nB bA bB (below_itself n A) (one_less_below n L down) in
-      let below2 = sandwich_below n few A B (one_plus (negsuc 0) M) B sA sB sA' sB nA nB bA bB (one_less_below n M up) (below_itself n B) in
-      record {
-        element_size = subst (IsOfSize n) (sym is.element) (product-size n A (product integers (one_plus (negsuc 0) L) A) sA (product-size n (one_plus (negsuc 0) L) A sB' sA));
-        inverse_size = subst (IsOfSize n) (sym is.inverse) (product-size n (one_plus (negsuc 0) M) (product integers B (one_plus (negsuc 0) M)) sA' (product-size n B (one_plus (negsuc 0) M) sB sA'));
-        absolute_size = subst (IsOfSize n) (sym is.absolute) (product-size n A (product integers B A) sA inner);
-        element_fit = e;
-        inverse_fit = i;
-        absolute_fit = a;
-        element_below = subst (λ t. IsBelow n w.element t) (sym is.absolute) (subst (λ t. IsBelow n t (sandwich A B)) (sym is.element) below1);
-        inverse_below = subst (λ t. IsBelow n w.inverse t) (sym is.absolute) (subst (λ t. IsBelow n t (sandwich A B)) (sym is.inverse) below2);
-        natural = subst (IsNatural n) (sym is.absolute) natural;
-        diagonal = subst (HasDiagonal n) (sym is.absolute) diagonal;
-      }
-
--- ---- products of steps are never too wide
--- 1 or -1
-abbrev pub IsSign : ℤ → Type 0
-IsSign c = (c ≡ pos 1) ⊎ (c ≡ negsuc 0)
-
-pub unit_below : (n : ℕ) (M : Matrix ℤ) → IsStepping n M → (c : ℤ) → IsSign c → IsBelow n (one_plus c M) (one_plus (pos 1) M)
-unit_below n M step c u = ⊎_elim (λ e. subst (λ t. IsBelow n (one_plus t M) (one_plus (pos 1) M)) (sym e) (below_itself n (one_plus (pos 1) M))) (λ e. subst (λ t. IsBelow n (one_plus t M) (one_plus (pos 1) M)) (sym e) (one_less_below n M step)) u
-
-module _ (n : ℕ) (few : n ≤ 1024) (M L : Matrix ℤ) (up : IsStepping n M) (down : IsStepping n L) (p q : ℤ) (up_unit : IsSign p) (down_unit : IsSign q) (P Q : Matrix ℤ) (isP : P ≡ one_plus p M) (isQ : Q ≡ one_plus q L) where
-  pub steps_inner : ¬ IsWideProduct integers Q P
-  steps_inner = subst (λ t. ¬ IsWideProduct integers t P) (sym isQ) (subst (λ t. ¬ IsWideProduct integers (one_plus q L) t) (sym isP)
-      (inner_narrow n few (one_plus (pos 1) M) (one_plus (pos 1) L) (one_plus p M) (one_plus q L) (one_plus-size n M up (pos 1)) (one_plus-size n L down (pos 1)) (one_plus-size n M up p) (one_plus-size n L down q)
-      (one_plus_natural n M up) (one_plus_natural n L down) (one_plus_bounded n M up) (one_plus_bounded n L down) (unit_below n M up p up_unit) (unit_below n L down q down_unit)))
-
-  pub steps_outer : ¬ IsWideProduct integers P (product integers Q P)
-  steps_outer = subst (λ t. ¬ IsWideProduct integers P (product integers t P)) (sym isQ) (subst (λ t. ¬ IsWideProduct integers t (product integers (one_plus q L) t)) (sym isP)
-      (outer_narrow n few (one_plus (pos 1) M) (one_plus (pos 1) L) (one_plus p M) (one_plus q L) (one_plus-size n M up (pos 1)) (one_plus-size n L down (pos 1)) (one_plus-size n M up p) (one_plus-size n L down q)
-      (one_plus_natural n M up) (one_plus_natural n L down) (one_plus_bounded n M up) (one_plus_bounded n L down) (unit_below n M up p up_unit) (unit_below n L down q down_unit)))
-
-  pub steps_sandwich : (m : Matrix ℤ) → m ≡ sandwich P Q → m ≡ sandwich (one_plus p M) (one_plus q L)
-  steps_sandwich m e = e ∙ ap (λ t. sandwich t Q) isP ∙ ap (sandwich (one_plus p M)) isQ
-
 -- ---- the zero matrix
 all_elem : (M : Matrix ℤ) → AllElem integers M
 all_elem M i j a b = refl
@@ -271,13 +161,13 @@ zero_square n = record {
   fit = λ i j a b. subst (Fits integers) (sym (entry-table (pos 0) n n (λ _ _. pos 0) i j a b)) (refl, omega arith);
 }
 
-pub keeps_nothing : (n : ℕ) (M : Matrix ℤ) → M ≡ zero_matrix (pos 0) n n → Keeps n M []
-keeps_nothing n M e = record {
-  few = omega arith;
-  first = sym e;
-  last = λ l. absurd (omega (arith, l));
-  square = subst (IsSquare n) (sym e) (zero_square n);
-}
-
 pub conjugate_size : (n : ℕ) (A M B : Matrix ℤ) (c : ℤ) → IsOfSize n A → IsOfSize n B → IsOfSize n (scaled integers c (product integers (product integers A M) B))
 conjugate_size n A M B c s t = record { height = s.height; width = t.width }
+
+pub conjugate_square : (n : ℕ) (A M B m : Matrix ℤ) (c : ℤ) → IsOfSize n A → IsOfSize n B → m ≡ scaled integers c (product integers (product integers A M) B) → AllFit integers m → IsSquare n m
+conjugate_square n A M B m c s t e f = record {
+  height = ap (λ (x : Matrix ℤ). x.height) e ∙ s.height;
+  width = ap (λ (x : Matrix ℤ). x.width) e ∙ t.width;
+  shaped = subst (λ (x : Matrix ℤ). IsShaped (pos 0) x) (sym e) (table-shaped (pos 0) A.height B.width (λ i j. c *ℤ entry (pos 0) (product integers (product integers A M) B) i j));
+  fit = f;
+}

@@ -10,6 +10,7 @@ use Rattle.lie_ring.specs.Matrices.{Matrix, table, entry, zero_matrix, direct_su
 use Rattle.lie_ring.specs.MatrixLemmas.{entry-table, table-same, table-shaped, map-range-last}
 use Rattle.lie_datum.specs.Numbers.{place, number_at}
 use Rattle.lie_datum.specs.Vectors.{Vector}
+use Rattle.lie_datum.specs.RootDatum.{IsWithin}
 use Rattle.lie_datum.specs.RootList.{RootDatum, IsNumber}
 use Rattle.lie_datum.proofs.Entries.{within_or_past}
 use Rattle.lie_datum.proofs.NumberLemmas.{place_within}
@@ -20,7 +21,7 @@ use Rattle.lie_weight.specs.Sums.{IsSum, IsNothing, IsDirectSum}
 use Rattle.lie_weight.specs.Carriers.{joined}
 use Rattle.lie_weight.specs.CarrierParts.{sum_power, sum_powers, module_sum, dimensions}
 use Rattle.lie_weight.proofs.Assembled.{number_place}
-use Rattle.lie_weight.proofs.DraftLemmas.{past_end, bare_single}
+use Rattle.lie_weight.proofs.DraftLemmas.{past_end, bare_draft}
 
 -- ---- blocks
 -- zero blocks make a zero matrix
@@ -202,10 +203,10 @@ roots_push v w m p j Mss Nss Ms one inv is push =
     push ∙ ap₂ (λ xs y. xs ++ y ∷ []) inv (is ∙ ap f none) ∙ sym (map-range-last f 0 p) ∙ ap (λ i. map f (range_with_len 0 i)) (sym one)
 
 -- the number of matrices of a root
-pub powers_few : (v w : Module) (r : ℤ) (k p q : ℕ) (Ms : List (Matrix ℤ)) → Ms ≡ map (λ i. sum_power v w r (suc i)) (range_with_len 0 k) → k ≤ max p q → p ≤ 16 * dimension v → q ≤ 16 * dimension w → length Ms ≤ 16 * (dimension v + dimension w)
+pub powers_few : (v w : Module) (r : ℤ) (k p q : ℕ) (Ms : List (Matrix ℤ)) → Ms ≡ map (λ i. sum_power v w r (suc i)) (range_with_len 0 k) → k ≤ max p q → p ≤ 16 * (dimension v - 1) → q ≤ 16 * (dimension w - 1) → length Ms ≤ 16 * (dimension v + dimension w - 1)
 powers_few v w r k p q Ms e l a b =
     let n = ap length e ∙ length-map-range_with_len (λ i. sum_power v w r (suc i)) 0 k in
-    let m : max p q ≤ 16 * (dimension v + dimension w) = max-le (omega (arith, a)) (omega (arith, b)) in
+    let m : max p q ≤ 16 * (dimension v + dimension w - 1) = max-le (omega (arith, a)) (omega (arith, b)) in
     omega (arith, l, n, m)
 
 -- what is filled is the sum
@@ -220,19 +221,21 @@ sum_filled v w m ws Mss n p e f l =
     a ∙ b ∙ c
 
 -- the whole sum
-pub sum_kept : (d : RootDatum) (v w : Module) → IsModule d v → IsModule d w → length d.positive ≤ 120 → dimension v + dimension w ≤ 1024 → All (ArePowers (dimension v + dimension w)) (module_sum v w).powers → IsKeptModule (module_sum v w)
-sum_kept d v w sv sw small few kept =
+pub sum_kept : (d : RootDatum) (v w : Module) → IsModule d v → IsModule d w → length d.positive ≤ 120 → dimension v + dimension w ≤ 1024 → All (IsWithin 1000000) v.weights → All (IsWithin 1000000) w.weights →
+    All (ArePowers (dimension v + dimension w)) (module_sum v w).powers → IsKeptModule (module_sum v w)
+sum_kept d v w sv sw small few lv lw kept =
     let n = length-append v.weights w.weights in
     record {
       small = let e = sv.positive in omega (arith, e, small);
       narrow = omega (arith, n, few);
+      light = All-append (IsWithin 1000000) v.weights w.weights lv lw;
       roots = length-map-range_with_len (λ p. sum_powers v w (number_at v.positive p)) 0 (2 * v.positive);
       powers = subst (λ t. All (ArePowers t) (module_sum v w).powers) (sym n) kept;
     }
 
 -- the module without basis vectors
 pub bare_nothing : (d : RootDatum) (m : ℕ) (ws : List Vector) → m ≡ length d.positive → ws ≡ [] → IsNothing d (record { positive = m; weights = ws; powers = replicate (2 * m) [] })
-bare_nothing d m ws e f = record { shape = (bare_single d m ws e).shape; weights = f }
+bare_nothing d m ws e f = record { shape = (bare_draft d m ws e).shape; weights = f }
 
 -- the first module of a list, and the others
 pub dimensions-cons : (v : Module) (vs : List Module) → dimensions (v ∷ vs) ≡ dimension v + dimensions vs

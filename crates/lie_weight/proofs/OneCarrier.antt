@@ -11,7 +11,7 @@ use Rattle.lie_const.specs.Adjoint.{adjoint_dimension, basis_vector, basis_weigh
 use Rattle.lie_const.specs.Signs.{Signs}
 use Rattle.lie_orbit.proofs.OneOrbit.{order}
 use Rattle.lie_weight.specs.declared.faults.ModuleFault.{ModuleFault}
-use Rattle.lie_weight.specs.declared.faults.ModuleFault.TheVariants.{NoMemory, NotMinuscule, Wide, Heavy, Huge}
+use Rattle.lie_weight.specs.declared.faults.ModuleFault.TheVariants.{NoMemory, NotMinuscule, Table, Wide, Heavy, Huge}
 use Rattle.lie_weight.specs.OrbitFaults.{IsHeavyAt}
 use Rattle.lie_weight.specs.Sums.{IsSum, IsNothing, IsDirectSum}
 use Rattle.lie_weight.specs.Carriers.{joined, IsModuleOfOrbit, IsCarrier, IsWideCarrier, AreCarrierWeights, IsHeavyCarrier, IsHugeCarrier, LoadsCarrier, LoadsCarrierOneWay}
@@ -20,6 +20,7 @@ use Rattle.lie_weight.proofs.AlongLemmas.{trichotomy, one_made}
 use Rattle.lie_weight.proofs.DraftLemmas.{past_end}
 use Rattle.lie_weight.proofs.CarrierOrbits.{one_list, not_wide}
 use Rattle.lie_weight.proofs.ModuleSums.{direct_sum-weights}
+use Rattle.lie_weight.proofs.OneAnswers.{one_sum}
 
 -- ---- sums
 module _ (d : RootDatum) where
@@ -34,12 +35,9 @@ module _ (d : RootDatum) where
   one_nothing : (s t : Module) → IsNothing d s → IsNothing d t → s ≡ t
   one_nothing s t a b = one_module d t s b.shape a.shape (a.weights ∙ sym b.weights) (λ r k n l. empty_power s a.shape a.weights r k n l ∙ sym (empty_power t b.shape b.weights r k n l))
 
-  one_sum : (v w s t : Module) → IsSum d v w s → IsSum d v w t → s ≡ t
-  one_sum v w s t a b = one_module d t s b.shape a.shape (a.weights ∙ sym b.weights) (λ r k n l. a.powers r k n l ∙ sym (b.powers r k n l))
-
   one_direct_sum : (vs : List Module) (s t : Module) → IsDirectSum d vs s → IsDirectSum d vs t → s ≡ t
   one_direct_sum [] s t a b = one_nothing s t a b
-  one_direct_sum (v ∷ vs) s t a b = one_sum v b.0 s t (subst (λ w. IsSum d v w s) (one_direct_sum vs a.0 b.0 a.1 b.1) a.2) b.2
+  one_direct_sum (v ∷ vs) s t a b = one_sum d v b.0 s t (subst (λ w. IsSum d v w s) (one_direct_sum vs a.0 b.0 a.1 b.1) a.2) b.2
 
 module _ (d : RootDatum) (loaded : IsLoaded d) (eta : Signs) where
   one_orbit_module : (u v : Module) → IsModuleOfOrbit d eta u → IsModuleOfOrbit d eta v → u.weights ≡ v.weights → u ≡ v
@@ -93,14 +91,19 @@ module _ (d : RootDatum) (loaded : IsLoaded d) (eta : Signs) where
     two : (x y : Result Module ModuleFault) → LoadsCarrier d eta adjoint x → LoadsCarrier d eta adjoint y → x ≢ Err NoMemory → y ≢ Err NoMemory → x ≡ y
     two (Err NoMemory) y a b n m = absurd (n refl)
     two (Err (NotMinuscule r)) y a b n m = absurd a
+    two (Err (Table p)) y a b n m = absurd a
     two (Ok u) (Err NoMemory) a b n m = absurd (m refl)
     two (Err (Wide p)) (Err NoMemory) a b n m = absurd (m refl)
     two (Err (Heavy p)) (Err NoMemory) a b n m = absurd (m refl)
     two (Err (Huge r k)) (Err NoMemory) a b n m = absurd (m refl)
     two (Ok u) (Err (NotMinuscule s)) a b n m = absurd b
+    two (Ok u) (Err (Table q)) a b n m = absurd b
     two (Err (Wide p)) (Err (NotMinuscule s)) a b n m = absurd b
+    two (Err (Wide p)) (Err (Table q)) a b n m = absurd b
     two (Err (Heavy p)) (Err (NotMinuscule s)) a b n m = absurd b
+    two (Err (Heavy p)) (Err (Table q)) a b n m = absurd b
     two (Err (Huge r k)) (Err (NotMinuscule s)) a b n m = absurd b
+    two (Err (Huge r k)) (Err (Table q)) a b n m = absurd b
     two (Ok u) (Ok v) a b n m = ap Ok (one_carrier u v a.0 b.0)
     two (Ok u) (Err (Wide p)) a b n m = absurd (few_not_wide u.weights (weights_of u a.0) a.1 b.1)
     two (Ok u) (Err (Heavy p)) a b n m = absurd (heavy_not_light p u.weights b (weights_of u a.0) a.2)

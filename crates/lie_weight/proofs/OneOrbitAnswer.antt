@@ -5,7 +5,7 @@ use Rattle.lie_datum.specs.RootList.{RootDatum, IsLoaded}
 use Rattle.lie_const.specs.Modules.{Module}
 use Rattle.lie_const.specs.Signs.{Signs}
 use Rattle.lie_weight.specs.declared.faults.ModuleFault.{ModuleFault}
-use Rattle.lie_weight.specs.declared.faults.ModuleFault.TheVariants.{NoMemory, NotMinuscule, Wide, Heavy, Huge}
+use Rattle.lie_weight.specs.declared.faults.ModuleFault.TheVariants.{NoMemory, NotMinuscule, Table, Wide, Heavy, Huge}
 use Rattle.lie_orbit.specs.Weights.{IsMinuscule, HasLargePairing, IsFirstLargePairing}
 use Rattle.lie_orbit.proofs.WeightLemmas.{one_first}
 use Rattle.lie_orbit.specs.Orbits.{IsOrbit, IsOrbitSize}
@@ -53,31 +53,37 @@ module _ (d : RootDatum) (loaded : IsLoaded d) (eta : Signs) (w : Vector) where
   two (Err NoMemory) y a b n m = absurd (n refl)
   two (Ok u) (Err NoMemory) a b n m = absurd (m refl)
   two (Err (NotMinuscule r)) (Err NoMemory) a b n m = absurd (m refl)
+  two (Err (Table p)) y a b n m = absurd a
   two (Err (Wide p)) (Err NoMemory) a b n m = absurd (m refl)
   two (Err (Heavy p)) (Err NoMemory) a b n m = absurd (m refl)
   two (Err (Huge r k)) (Err NoMemory) a b n m = absurd (m refl)
   two (Ok u) (Ok v) a b n m = ap Ok (one_orbit_module u v a.1 b.1)
   two (Ok u) (Err (NotMinuscule r)) a b n m = absurd (no_large_pairing r b a.0)
+  two (Ok u) (Err (Table q)) a b n m = absurd b
   two (Ok u) (Err (Wide p)) a b n m = absurd (not_wide d w p u.weights b.1 b.2 a.1.weights a.2.few)
   two (Ok u) (Err (Heavy p)) a b n m = absurd (not_light d w p u.weights b.1 a.1.weights a.2)
   two (Ok u) (Err (Huge r k)) a b n m = absurd (huge_small r k u b.1 a.1 a.3)
   two (Err (NotMinuscule r)) (Ok v) a b n m = absurd (no_large_pairing r a b.0)
   two (Err (NotMinuscule r)) (Err (NotMinuscule s)) a b n m = ap (λ (t : ℤ). Err (NotMinuscule t)) (one_large d w r s a b)
+  two (Err (NotMinuscule r)) (Err (Table q)) a b n m = absurd b
   two (Err (NotMinuscule r)) (Err (Wide p)) a b n m = absurd (no_large_pairing r a b.0)
   two (Err (NotMinuscule r)) (Err (Heavy p)) a b n m = absurd (no_large_pairing r a b.0)
   two (Err (NotMinuscule r)) (Err (Huge s k)) a b n m = absurd (no_large_pairing r a b.0)
   two (Err (Wide p)) (Ok v) a b n m = absurd (not_wide d w p v.weights a.1 a.2 b.1.weights b.2.few)
   two (Err (Wide p)) (Err (NotMinuscule s)) a b n m = absurd (no_large_pairing s b a.0)
+  two (Err (Wide p)) (Err (Table q)) a b n m = absurd b
   two (Err (Wide p)) (Err (Wide q)) a b n m = ap (λ (t : ℕ). Err (Wide t)) (one_size d w p q a.2 b.2)
   two (Err (Wide p)) (Err (Heavy q)) a b n m = absurd (not_wide d w p b.1.weights a.1 a.2 b.1.orbit b.1.few)
   two (Err (Wide p)) (Err (Huge s k)) a b n m = absurd (not_wide d w p b.1.weights a.1 a.2 b.1.orbit b.1.light.few)
   two (Err (Heavy p)) (Ok v) a b n m = absurd (not_light d w p v.weights a.1 b.1.weights b.2)
   two (Err (Heavy p)) (Err (NotMinuscule s)) a b n m = absurd (no_large_pairing s b a.0)
+  two (Err (Heavy p)) (Err (Table q)) a b n m = absurd b
   two (Err (Heavy p)) (Err (Wide q)) a b n m = absurd (not_wide d w q a.1.weights b.1 b.2 a.1.orbit a.1.few)
   two (Err (Heavy p)) (Err (Heavy q)) a b n m = ap (λ (t : ℕ). Err (Heavy t)) (one_heavy_weight d w p q a.1 b.1)
   two (Err (Heavy p)) (Err (Huge s k)) a b n m = absurd (not_light d w p b.1.weights a.1 b.1.orbit b.1.light)
   two (Err (Huge r k)) (Ok v) a b n m = absurd (huge_small r k v a.1 b.1 b.3)
   two (Err (Huge r k)) (Err (NotMinuscule s)) a b n m = absurd (no_large_pairing s b a.0)
+  two (Err (Huge r k)) (Err (Table q)) a b n m = absurd b
   two (Err (Huge r k)) (Err (Wide q)) a b n m = absurd (not_wide d w q a.1.weights b.1 b.2 a.1.orbit a.1.light.few)
   two (Err (Huge r k)) (Err (Heavy q)) a b n m = absurd (not_light d w q a.1.weights b.1 a.1.orbit a.1.light)
   two (Err (Huge r k)) (Err (Huge s j)) a b n m = let e = one_huge_orbit r s k j a.1 b.1 in ap (λ (t : ℤ). Err (Huge t k)) e.0 ∙ ap (λ (t : ℕ). Err (Huge s t)) e.1

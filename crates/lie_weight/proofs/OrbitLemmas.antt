@@ -1,5 +1,5 @@
 -- The weights of an orbit, and why its module is not completed.
-use Rattle.std.proofs.Common.{◌-◌, ◌≤◌, List, [], length, get_or, subst, arith, unsigned_abs, sym, Result, Ok, Err, IfOk, IfErr, ◌≡◌}
+use Rattle.std.proofs.Common.{◌-◌, ◌≤◌, List, [], length, get_or, subst, arith, unsigned_abs, sym, Result, Ok, Err, IfOk, IfErr}
 use Rattle.std.specs.List.{All}
 use Rattle.lie_datum.specs.Vectors.{Vector}
 use Rattle.lie_datum.specs.RootDatum.{IsWithin}
@@ -9,10 +9,9 @@ use Rattle.lie_orbit.specs.Weights.{IsMinuscule}
 use Rattle.lie_orbit.specs.Orbits.{start, IsOrbit, IsNear}
 use Rattle.lie_orbit.proofs.WeightLemmas.{from_entries}
 use Rattle.lie_weight.specs.OrbitFaults.{IsHeavyWeight, AreLight, LoadsOrbit}
-use Rattle.lie_weight.specs.Completion.{IsConjugateFault}
 use Rattle.lie_weight.specs.Along.{IsMadeAlong, IsFaultAlong}
 use Rattle.lie_weight.specs.declared.faults.ModuleFault.{ModuleFault}
-use Rattle.lie_weight.specs.declared.faults.ModuleFault.TheVariants.{NoMemory, NotMinuscule, Wide, Heavy, Huge}
+use Rattle.lie_weight.specs.declared.faults.ModuleFault.TheVariants.{NoMemory, NotMinuscule, Table, Wide, Heavy, Huge}
 use Rattle.lie_const.specs.Modules.{Module}
 use Rattle.lie_const.specs.Signs.{Signs}
 
@@ -34,19 +33,12 @@ near_small w ws small near k z l = from_entries 1000000 (get_or ws k z) (λ j. (
 pub orbit_some : (d : RootDatum) (w : Vector) (ws : List Vector) → IsOrbit d w ws → 1 ≤ length ws
 orbit_some d w ws o = let c = (o.members w).1 start in let l = c.1 in omega (arith, l)
 
--- why the module along weights is not made
-pub fault_along : (d : RootDatum) (eta : Signs) (ws : List Vector) (v : Module) (e : ModuleFault) → v.weights ≡ ws → IsConjugateFault d eta v e → IsFaultAlong d eta ws e
-fault_along d eta ws v NoMemory same h = tt
-fault_along d eta ws v (NotMinuscule r) same h = absurd h
-fault_along d eta ws v (Wide n) same h = absurd h
-fault_along d eta ws v (Heavy a) same h = absurd h
-fault_along d eta ws v (Huge r k) same h = record { partial = v; weights = same; steps = h.0; completed = h.1; first = h.2 }
-
 -- what is made along an orbit is what the orbit of its weight makes
 pub along_loads : (d : RootDatum) (eta : Signs) (w : Vector) (ws : List Vector) (r : Result Module ModuleFault) → IsMinuscule d w → IsOrbit d w ws → AreLight ws → IfOk r (IsMadeAlong d eta ws) → IfErr r (IsFaultAlong d eta ws) → LoadsOrbit d eta w r
 along_loads d eta w ws (Ok v) m o l h f = (m, record { weights = subst (IsOrbit d w) (sym h.0) o; steps = h.1.steps; completed = h.1.completed }, subst AreLight (sym h.0) l, h.1.small)
 along_loads d eta w ws (Err NoMemory) m o l h f = tt
 along_loads d eta w ws (Err (NotMinuscule r)) m o l h f = absurd f
+along_loads d eta w ws (Err (Table n)) m o l h f = absurd f
 along_loads d eta w ws (Err (Wide n)) m o l h f = absurd f
 along_loads d eta w ws (Err (Heavy a)) m o l h f = absurd f
 along_loads d eta w ws (Err (Huge r k)) m o l h f = (m, record { weights = ws; orbit = o; light = l; along = f })

@@ -36,11 +36,11 @@ nat_sum-bound (suc n) f m h = let a = nat_sum-bound n f m (λ k l. h k (omega (a
     suc-mul : (n m : ℕ) → suc n * m ≡ n * m + m
     suc-mul n m = omega arith
 
-abs_sum : (n : ℕ) (f : ℕ → ℤ) → nat_abs (sum_below integers n f) ≤ nat_sum_below n (λ k. nat_abs (f k))
+pub abs_sum : (n : ℕ) (f : ℕ → ℤ) → nat_abs (sum_below integers n f) ≤ nat_sum_below n (λ k. nat_abs (f k))
 abs_sum zero f = omega arith
 abs_sum (suc n) f = let a = abs_sum n f in let b = abs_add (sum_below integers n f) (f n) in omega (arith, a, b)
 
-pos_sum : (n : ℕ) (f : ℕ → ℕ) → sum_below integers n (λ k. pos (f k)) ≡ pos (nat_sum_below n f)
+pub pos_sum : (n : ℕ) (f : ℕ → ℕ) → sum_below integers n (λ k. pos (f k)) ≡ pos (nat_sum_below n f)
 pos_sum zero f = refl
 pos_sum (suc n) f = ap (λ t. t +ℤ pos (f n)) (pos_sum n f)
 

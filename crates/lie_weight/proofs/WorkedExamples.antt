@@ -8,6 +8,7 @@ use Rattle.lie_datum.specs.RootList.{RootDatum}
 use Rattle.lie_const.specs.Modules.{Module, root_element, weyl_element, weyl_inverse}
 use Rattle.lie_const.specs.Signs.{Signs}
 use Rattle.lie_weight.specs.OrbitModules.{step_matrix}
+use Rattle.lie_weight.specs.Duals.{dual_power}
 use Rattle.lie_weight.specs.Conjugation.{conjugated, IsConjugate, absolute_height, reflected_height}
 
 -- x and y, and six zeros
@@ -83,3 +84,7 @@ third_is_conjugate = refl
 third_by_conjugation : conjugated (space []) 2 (step_matrix c2 orbit (pos 1)) ≡ square (row (pos 0) (pos 0) (negsuc 0) (pos 0)) (row (pos 0) (pos 0) (pos 0) (pos 1)) none none
 unfolding step_matrix root_element weyl_element weyl_inverse
 third_by_conjugation = refl
+
+-- ---- the dual has rows for columns, and the opposite sign for E_r^(1)
+dual_third : dual_power (space (third ∷ [])) (pos 3) 1 ≡ square none none (row (negsuc 0) (pos 0) (pos 0) (pos 0)) (row (pos 0) (pos 1) (pos 0) (pos 0))
+dual_third = refl

@@ -11,7 +11,7 @@ use Rattle.lie_const.specs.Adjoint.{adjoint_dimension}
 use Rattle.lie_const.specs.Signs.{Signs}
 use Rattle.lie_orbit.specs.Lowering.{Lowers}
 use Rattle.lie_weight.specs.declared.faults.ModuleFault.{ModuleFault}
-use Rattle.lie_weight.specs.declared.faults.ModuleFault.TheVariants.{NoMemory, NotMinuscule, Wide, Heavy, Huge}
+use Rattle.lie_weight.specs.declared.faults.ModuleFault.TheVariants.{NoMemory, NotMinuscule, Table, Wide, Heavy, Huge}
 use Rattle.lie_weight.specs.Conjugation.{Precedes}
 use Rattle.lie_weight.specs.OrbitFaults.{IsFirstHugeAlong}
 use Rattle.lie_weight.specs.Along.{IsMade}
@@ -53,6 +53,7 @@ abbrev pub IsListingFault : RootDatum → ModuleFault → Type 0
 IsListingFault d NoMemory = ⊤
 IsListingFault d (Wide n) = (n ≡ 1025) × IsWideCarrier d
 IsListingFault d (NotMinuscule r) = ⊥
+IsListingFault d (Table n) = ⊥
 IsListingFault d (Heavy a) = ⊥
 IsListingFault d (Huge r k) = ⊥
 
@@ -84,5 +85,6 @@ abbrev pub IsMakingFault : RootDatum → Signs → List (List Vector) → Module
 IsMakingFault d eta os NoMemory = ⊤
 IsMakingFault d eta os (Huge r k) = IsFirstHugeOf d eta os r k
 IsMakingFault d eta os (NotMinuscule r) = ⊥
+IsMakingFault d eta os (Table n) = ⊥
 IsMakingFault d eta os (Wide n) = ⊥
 IsMakingFault d eta os (Heavy a) = ⊥

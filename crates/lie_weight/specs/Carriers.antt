@@ -17,7 +17,7 @@ use Rattle.lie_orbit.specs.Laws.{IsZero}
 use Rattle.lie_orbit.specs.Lowering.{Lowers}
 use Rattle.lie_orbit.specs.Orbits.{IsReached, IsOrbit, AreDistinct}
 use Rattle.lie_weight.specs.declared.faults.ModuleFault.{ModuleFault}
-use Rattle.lie_weight.specs.declared.faults.ModuleFault.TheVariants.{NoMemory, NotMinuscule, Wide, Heavy, Huge}
+use Rattle.lie_weight.specs.declared.faults.ModuleFault.TheVariants.{NoMemory, NotMinuscule, Table, Wide, Heavy, Huge}
 use Rattle.lie_weight.specs.Conjugation.{Precedes}
 use Rattle.lie_weight.specs.OrbitModules.{IsOrbitModule}
 use Rattle.lie_weight.specs.OrbitFaults.{IsHeavyAt, IsFirstHugeAlong}
@@ -107,6 +107,7 @@ abbrev pub LoadsCarrier : RootDatum → Signs → Module → Result Module Modul
 LoadsCarrier d eta adjoint (Ok v) = IsCarrier d eta adjoint v × (dimension v ≤ 1024) × ((a : ℕ) → ¬ IsHeavyAt v.weights a) × ((r : ℤ) (k : ℕ) → ¬ IsHugeAt d eta r k)
 LoadsCarrier d eta adjoint (Err NoMemory) = ⊤
 LoadsCarrier d eta adjoint (Err (NotMinuscule r)) = ⊥
+LoadsCarrier d eta adjoint (Err (Table n)) = ⊥
 LoadsCarrier d eta adjoint (Err (Wide n)) = (n ≡ 1025) × IsWideCarrier d
 LoadsCarrier d eta adjoint (Err (Heavy a)) = IsHeavyCarrier d adjoint a
 LoadsCarrier d eta adjoint (Err (Huge r k)) = IsLightCarrier d adjoint × IsHugeCarrier d eta r k

@@ -1,24 +1,23 @@
--- The matrices that conjugate the root vectors of an orbit's module, and the sizes of their entries.
+-- The matrices that conjugate root vectors, and the sizes of their entries.
 -- For proofs: no public clause cites it.
 --
---   1 + c M                       one_plus c M
 --   A (B A)                       sandwich A B
 --   n by n                        IsOfSize n M
 --   |M_ij| <= |A_ij|              IsBelow n M A           i, j < n
-use Rattle.std.specs.Prelude.{◌≡◌, ℕ, ◌<◌, ◌≤◌, ℤ, pos, negsuc, ◌+ℤ◌, ◌*ℤ◌, nat_abs, cond, eqb}
+use Rattle.std.specs.Prelude.{◌≡◌, ℕ, suc, ◌<◌, ◌≤◌, ℤ, pos, negsuc, ◌+ℤ◌, nat_abs, unsigned_abs, cond, eqb}
+use Rattle.lie_ring.specs.Rings.{sum_below}
 use Rattle.lie_ring.specs.Integers.{integers}
-use Rattle.lie_ring.specs.Matrices.{Matrix, table, entry, product, AllFit}
+use Rattle.lie_ring.specs.Powers.{power}
+use Rattle.lie_ring.specs.Matrices.{Matrix, entry, product, scaled, AllFit}
+use Rattle.lie_mat.specs.Wide.{IsHugeMatrix}
+use Rattle.lie_weight.specs.declared.elements.Elements.{Elements}
 use Rattle.lie_weight.specs.declared.factors.Factors.{Factors}
-use Rattle.lie_const.specs.Modules.{Module, dimension, weyl_element, weyl_inverse}
-use Rattle.lie_weight.specs.Conjugation.{absolute, absolute_weyl}
+use Rattle.lie_const.specs.Modules.{Module, dimension, top, divided_power, root_element, weyl_element, weyl_inverse}
+use Rattle.lie_weight.specs.Conjugation.{absolute, absolute_element, absolute_weyl}
 
--- the entry of 1 + c M
-abbrev pub one_plus_entry : ℤ → Matrix ℤ → ℕ → ℕ → ℤ
-one_plus_entry c M i j = cond (eqb i j) (pos 1) (pos 0) +ℤ c *ℤ entry (pos 0) M i j
-
--- 1 + c M
-abbrev pub one_plus : ℤ → Matrix ℤ → Matrix ℤ
-one_plus c M = table M.height M.height (one_plus_entry c M)
+-- the entry of F_r
+abbrev pub absolute_entry : Module → ℤ → ℕ → ℕ → ℤ
+absolute_entry v r a b = cond (eqb a b) (pos 1) (pos 0) +ℤ sum_below integers (top v r) (λ k. pos (nat_abs (entry (pos 0) (divided_power v r (suc k)) a b)))
 
 -- A (B A)
 abbrev pub sandwich : Matrix ℤ → Matrix ℤ → Matrix ℤ
@@ -45,17 +44,20 @@ HasDiagonal n A = (j : ℕ) → j < n → 1 ≤ nat_abs (entry (pos 0) A j j)
 abbrev pub IsBoundedBy : ℕ → ℕ → Matrix ℤ → Type 0
 IsBoundedBy n m A = (i j : ℕ) → i < n → j < n → nat_abs (entry (pos 0) A i j) ≤ m
 
--- a square matrix whose entries are 0 and 1
-pub record IsStepping (n : ℕ) (M : Matrix ℤ) : Type 0 where
-  pub size : IsOfSize n M
-  pub natural : IsNatural n M
-  pub small : IsBoundedBy n 1 M
+-- at most 16 matrices for a root, with entries within 100
+pub record HasSmallPowers (v : Module) (r : ℤ) : Type 0 where
+  pub number : unsigned_abs r ≤ v.positive
+  pub few : top v r ≤ 16
+  pub small : (k : ℕ) → IsBoundedBy (dimension v) 100 (divided_power v r (suc k))
 
--- N_i, N_i^-1 and the product of their absolute values, of the steps M by a_i and L by -a_i
-pub record AreFactorsOf (M L : Matrix ℤ) (w : Factors) : Type 0 where
-  pub element : w.element ≡ sandwich (one_plus (pos 1) M) (one_plus (negsuc 0) L)
-  pub inverse : w.inverse ≡ sandwich (one_plus (negsuc 0) M) (one_plus (pos 1) L)
-  pub absolute : w.absolute ≡ sandwich (one_plus (pos 1) M) (one_plus (pos 1) L)
+-- X_r(1), X_r(-1) and F_r
+pub record AreElements (v : Module) (r : ℤ) (x : Elements) : Type 0 where
+  pub plus : x.plus ≡ root_element integers v r (pos 1)
+  pub minus : x.minus ≡ root_element integers v r (negsuc 0)
+  pub absolute : x.absolute ≡ absolute_element v r
+  pub plus_fit : AllFit integers x.plus
+  pub minus_fit : AllFit integers x.minus
+  pub absolute_fit : AllFit integers x.absolute
 
 -- matrices that may be multiplied, the first two below the third, which has a diagonal and no entry below 0
 pub record AreFactors (n : ℕ) (w : Factors) : Type 0 where
@@ -80,3 +82,17 @@ pub record AreModuleFactors (v : Module) (i : ℕ) (w : Factors) : Type 0 where
 -- the work on M
 abbrev pub work_on : Matrix ℤ → Matrix ℤ → Matrix ℤ
 work_on A M = product integers (product integers A (absolute M)) A
+
+-- no work on the matrices of the root s is huge
+abbrev pub HasSmallWork : Factors → Module → ℤ → Type 0
+HasSmallWork w v s = (k : ℕ) → ¬ IsHugeMatrix (work_on w.absolute (divided_power v s (suc k)))
+
+-- k is the first power for which it is
+pub record IsFirstHugePower (w : Factors) (v : Module) (s : ℤ) (k : ℕ) : Type 0 where
+  pub first : 1 ≤ k
+  pub huge : IsHugeMatrix (work_on w.absolute (divided_power v s k))
+  pub before : (j : ℕ) → 1 ≤ j → j < k → ¬ IsHugeMatrix (work_on w.absolute (divided_power v s j))
+
+-- c^(k+1) N_i E_s^(k+1) N_i^-1
+abbrev pub conjugate_power : Factors → ℤ → Module → ℤ → ℕ → Matrix ℤ
+conjugate_power w c v s k = scaled integers (power integers c (suc k)) (product integers (product integers w.element (divided_power v s (suc k))) w.inverse)

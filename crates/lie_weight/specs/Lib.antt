@@ -6,8 +6,12 @@ pub mod Conjugation
 pub mod OrbitModules
 pub mod OrbitFaults
 pub mod Sums
+pub mod Tables
+pub mod Duals
+pub mod Tensors
 pub mod Carriers
 pub mod Factors
 pub mod Completion
 pub mod Along
 pub mod CarrierParts
+pub mod TensorParts

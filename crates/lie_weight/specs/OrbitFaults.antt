@@ -7,7 +7,7 @@ use Rattle.lie_datum.specs.RootList.{RootDatum, IsLoaded}
 use Rattle.lie_const.specs.Modules.{Module}
 use Rattle.lie_const.specs.Signs.{Signs}
 use Rattle.lie_weight.specs.declared.faults.ModuleFault.{ModuleFault}
-use Rattle.lie_weight.specs.declared.faults.ModuleFault.TheVariants.{NoMemory, NotMinuscule, Wide, Heavy, Huge}
+use Rattle.lie_weight.specs.declared.faults.ModuleFault.TheVariants.{NoMemory, NotMinuscule, Table, Wide, Heavy, Huge}
 use Rattle.lie_orbit.specs.Weights.{IsMinuscule, IsFirstLargePairing}
 use Rattle.lie_orbit.specs.Orbits.{IsOrbit, IsOrbitSize}
 use Rattle.lie_orbit.specs.declared.faults.OrbitFault.{OrbitFault}
@@ -61,6 +61,7 @@ abbrev pub LoadsOrbit : RootDatum → Signs → Vector → Result Module ModuleF
 LoadsOrbit d eta w (Ok v) = IsMinuscule d w × IsOrbitModule d eta w v × AreLight v.weights × ((r : ℤ) (k : ℕ) → ¬ IsHuge d v r k)
 LoadsOrbit d eta w (Err NoMemory) = ⊤
 LoadsOrbit d eta w (Err (NotMinuscule r)) = IsFirstLargePairing d w r
+LoadsOrbit d eta w (Err (Table n)) = ⊥
 LoadsOrbit d eta w (Err (Wide n)) = IsMinuscule d w × (300 < n) × IsOrbitSize d w n
 LoadsOrbit d eta w (Err (Heavy a)) = IsMinuscule d w × IsFirstHeavyWeight d w a
 LoadsOrbit d eta w (Err (Huge r k)) = IsMinuscule d w × IsFirstHugeConjugate d eta w r k

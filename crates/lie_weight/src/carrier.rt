@@ -36,7 +36,11 @@ fn precedes(datum: &Datum, q: RootId, j: u32, r: RootId, k: u32) -> bool
 }
 
 /// The first of two places, where the first one may be missing.
-fn earlier(datum: &Datum, first: Option<(RootId, u32)>, other: (RootId, u32)) -> (RootId, u32)
+pub(crate) fn earlier(
+    datum: &Datum,
+    first: Option<(RootId, u32)>,
+    other: (RootId, u32),
+) -> (RootId, u32)
     requires first { IfSome first (λ p. IsNumber datum.now p.0) }
     requires other { IsNumber datum.now other.0 }
     ensures { IsFirstOf datum.now first other.0 other.1 result }

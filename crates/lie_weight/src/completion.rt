@@ -1,18 +1,14 @@
-//! The completion of the module of an orbit: the matrices of the roots that are not simple.
+//! The completion of a module in which the simple roots have their matrices: the matrices of the other roots.
 
-ghost use Rattle.std.specs.Prelude.{◌≡◌, ◌≤◌, ◌<◌, ◌+◌, ◌*◌, ◌⊎◌, ℕ, ℤ, pos, negsuc, ◌^◌, ◌↔◌, MatchOption, IfOk, IfErr, OnOk, IsTrue, length, unsigned_abs};
-ghost use Rattle.lie_ring.specs.Integers.{integers};
-ghost use Rattle.lie_ring.specs.Matrices.{product, scaled};
+ghost use Rattle.std.specs.Prelude.{◌≡◌, ◌≤◌, ◌<◌, ◌+◌, ◌*◌, ℕ, ℤ, ◌^◌, ◌↔◌, MatchOption, IfOk, IfErr, OnOk, IsTrue, length, unsigned_abs};
 ghost use Rattle.lie_datum.specs.Numbers.{place};
 ghost use Rattle.lie_datum.specs.RootDatum.{rank};
 ghost use Rattle.lie_datum.specs.RootList.{IsNumber};
-ghost use Rattle.lie_const.specs.Modules.{dimension, top, divided_power};
+ghost use Rattle.lie_const.specs.Modules.{dimension, top};
 ghost use Rattle.lie_const.specs.Signs.{IsSignTable, eta_of};
-ghost use Rattle.lie_mat.specs.Wide.{IsHugeMatrix};
 ghost use Rattle.lie_weight.specs.Conjugation.{absolute_height, IsLowering, IsCompleted, IsHuge};
-ghost use Rattle.lie_weight.specs.OrbitModules.{HasSteps};
-ghost use Rattle.lie_weight.specs.Factors.{AreFactors, work_on};
-ghost use Rattle.lie_weight.specs.Completion.{Keeps, IsStepped, IsPartly, AreAllFactors, IsConjugateFault};
+ghost use Rattle.lie_weight.specs.Factors.{AreFactors, HasSmallWork, IsFirstHugePower, conjugate_power};
+ghost use Rattle.lie_weight.specs.Completion.{IsDraft, KeepsAll, Extends, IsPartly, AreAllFactors, IsConjugateFault};
 
 use crate::factors::{Factors, conjugate, test_work};
 use crate::faults::ModuleFault;
@@ -22,7 +18,7 @@ use lie_const::Signs;
 use lie_datum::{Datum, RootId};
 use lie_mat::Mat;
 use lie_ring::{Ints, RingStop};
-use std::alloc::Global;
+use std::alloc::{AllocError, Global};
 
 /// A simple index, and the root that its reflection makes of another.
 #[derive(Clone, Copy)]
@@ -52,6 +48,27 @@ fn lowered(datum: &Datum, r: RootId) -> Option<Lowering>
     None
 }
 
+/// The first power of a root on which the work is huge.
+fn first_huge_power(
+    alloc: Global,
+    factors: &Factors,
+    space: &Module,
+    s: RootId,
+) -> Result<Option<u32>, AllocError>
+    requires factors { AreFactors (dimension space.now) factors.now }
+    requires number { unsigned_abs s ≤ space.now.positive }
+    ensures { IfOk result (λ o. MatchOption o (HasSmallWork factors.now space.now s) (IsFirstHugePower factors.now space.now s)) }
+{
+    for k in 0..space.top(s) {
+        match test_work(alloc, factors, space.power(s, k + 1)) {
+            Ok(()) => {}
+            Err(RingStop::Wide) => return Ok(Some(k + 1)),
+            Err(RingStop::NoMemory) => return Err(AllocError),
+        }
+    }
+    Ok(None)
+}
+
 /// The powers of a root that are conjugate to those of another root, with a sign.
 fn conjugated_powers(
     alloc: Global,
@@ -59,31 +76,21 @@ fn conjugated_powers(
     sign: i128,
     space: &Module,
     s: RootId,
-) -> Result<Vec<Mat<Ints>>, RingStop>
+) -> Result<Vec<Mat<Ints>>, AllocError>
     requires factors { AreFactors (dimension space.now) factors.now }
-    requires sign { (sign ≡ pos 1) ⊎ (sign ≡ negsuc 0) }
+    requires sign { unsigned_abs sign ≤ 1 }
     requires number { unsigned_abs s ≤ space.now.positive }
-    requires single { top space.now s ≤ 1 }
-    ensures keeps { IfOk result (λ list. Keeps (dimension space.now) (scaled integers sign (product integers (product integers factors.now.element (divided_power space.now s 1)) factors.now.inverse)) list.items) }
-    ensures small { OnOk result (¬ IsHugeMatrix (work_on factors.now.absolute (divided_power space.now s 1))) }
-    ensures wide { result ≡ Err RingStop.Wide → IsHugeMatrix (work_on factors.now.absolute (divided_power space.now s 1)) }
+    requires few { top space.now s ≤ 16 }
+    requires small { HasSmallWork factors.now space.now s }
+    ensures { IfOk result (λ list. KeepsAll (dimension space.now) (conjugate_power factors.now sign space.now s) list.items) }
 {
-    if space.top(s) == 0 {
-        return Ok(Vec::new(alloc));
+    let mut list = Vec::new(alloc);
+    let mut power = 1;
+    for k in 0..space.top(s) {
+        power *= sign;
+        list.push(conjugate(alloc, factors, power, space.power(s, k + 1))?)?;
     }
-    let power = space.power(s, 1);
-    match test_work(alloc, factors, power) {
-        Ok(()) => {}
-        Err(stop) => return Err(stop),
-    }
-    let conjugate = match conjugate(alloc, factors, sign, power) {
-        Ok(conjugate) => conjugate,
-        Err(_) => return Err(RingStop::NoMemory),
-    };
-    match kept(alloc, conjugate) {
-        Ok(powers) => Ok(powers),
-        Err(_) => Err(RingStop::NoMemory),
-    }
+    kept(alloc, space.dim(), list)
 }
 
 /// Completes the module at a root that is neither simple nor the negative of a simple root, where
@@ -104,21 +111,27 @@ fn complete_root(
     requires partly { IsPartly datum.now (eta_of signs.now) (absolute_height datum.now r) (place (length datum.now.positive) r) space.old }
     ensures partly { OnOk result (IsPartly datum.now (eta_of signs.now) (absolute_height datum.now r) (place (length datum.now.positive) r + 1) space.new) }
     ensures factors { AreAllFactors datum.now space.new factors.now }
-    ensures weights { space.new.weights ≡ space.old.weights }
+    ensures extends { Extends datum.now space.old space.new }
     ensures fault { IfErr result (IsConjugateFault datum.now (eta_of signs.now) space.new) }
 {
     datum.loaded();
     let Some(lower) = lowered(datum, r) else {
         return Ok(());
     };
+    let factors = &factors[lower.index - 1];
+    match first_huge_power(alloc, factors, space, lower.root) {
+        Ok(None) => {}
+        Ok(Some(k)) => return Err(ModuleFault::Huge(r, k)),
+        Err(_) => return Err(ModuleFault::NoMemory),
+    }
     let sign = signs.eta(lower.index, lower.root);
-    match conjugated_powers(alloc, &factors[lower.index - 1], sign, space, lower.root) {
+    space.kept();
+    match conjugated_powers(alloc, factors, sign, space, lower.root) {
         Ok(powers) => {
             space.set_powers(r, powers);
             Ok(())
         }
-        Err(RingStop::NoMemory) => Err(ModuleFault::NoMemory),
-        Err(RingStop::Wide) => Err(ModuleFault::Huge(r, 1)),
+        Err(_) => Err(ModuleFault::NoMemory),
     }
 }
 
@@ -145,7 +158,7 @@ fn complete_height(
     requires partly { IsPartly datum.now (eta_of signs.now) height 0 space.old }
     ensures partly { OnOk result (IsPartly datum.now (eta_of signs.now) (height + 1) 0 space.new) }
     ensures factors { AreAllFactors datum.now space.new factors.now }
-    ensures weights { space.new.weights ≡ space.old.weights }
+    ensures extends { Extends datum.now space.old space.new }
     ensures fault { IfErr result (IsConjugateFault datum.now (eta_of signs.now) space.new) }
 {
     datum.loaded();
@@ -187,11 +200,10 @@ pub(crate) fn complete(
     requires signs { IsSignTable datum.now signs.now }
     requires factors { AreAllFactors datum.now space.old factors.now }
     requires some { 1 ≤ dimension space.old }
-    requires stepped { IsStepped datum.now (rank datum.now.base) space.old }
-    ensures steps { OnOk result (HasSteps datum.now space.new) }
+    requires draft { IsDraft datum.now space.old }
     ensures completed { OnOk result (IsCompleted datum.now (eta_of signs.now) space.new) }
     ensures small { OnOk result ((r : ℤ) (k : ℕ) → ¬ IsHuge datum.now space.new r k) }
-    ensures weights { space.new.weights ≡ space.old.weights }
+    ensures extends { Extends datum.now space.old space.new }
     ensures fault { IfErr result (IsConjugateFault datum.now (eta_of signs.now) space.new) }
 {
     for height in 0..highest(datum) + 1 {

@@ -4,9 +4,9 @@ ghost use Rattle.std.specs.Prelude.{◌≡◌, ◌≤◌, unsigned_abs, IfOk, On
 ghost use Rattle.lie_ring.specs.Integers.{integers};
 ghost use Rattle.lie_ring.specs.Matrices.{AllFit, product, scaled};
 ghost use Rattle.lie_mat.specs.Wide.{IsWideProduct, IsHugeMatrix};
-ghost use Rattle.lie_weight.specs.Factors.{IsOfSize, IsStepping, AreFactorsOf, AreFactors, sandwich, work_on};
+ghost use Rattle.lie_weight.specs.Factors.{AreFactors, sandwich, work_on};
 
-use crate::rules::{absolute, one_plus, scaled};
+use crate::rules::{absolute, scaled};
 use lie_mat::Mat;
 use lie_ring::{Ints, RingStop};
 use std::alloc::{AllocError, Global};
@@ -36,7 +36,7 @@ fn narrow_product(alloc: Global, a: &Mat<Ints>, b: &Mat<Ints>) -> Result<Mat<Int
 }
 
 /// The product A (B A).
-fn sandwich(alloc: Global, a: &Mat<Ints>, b: &Mat<Ints>) -> Result<Mat<Ints>, AllocError>
+pub(crate) fn sandwich(alloc: Global, a: &Mat<Ints>, b: &Mat<Ints>) -> Result<Mat<Ints>, AllocError>
     requires shape { a.now.width ≡ b.now.height }
     requires inner_shape { b.now.width ≡ a.now.height }
     requires a_fit { AllFit integers a.now }
@@ -48,29 +48,6 @@ fn sandwich(alloc: Global, a: &Mat<Ints>, b: &Mat<Ints>) -> Result<Mat<Ints>, Al
 {
     let inner = narrow_product(alloc, b, a)?;
     narrow_product(alloc, a, &inner)
-}
-
-/// The factors of the steps by a simple root and by its negative.
-pub(crate) fn step_factors(
-    alloc: Global,
-    up: &Mat<Ints>,
-    down: &Mat<Ints>,
-) -> Result<Factors, AllocError>
-    requires few { up.now.height ≤ 1024 }
-    requires up { IsStepping up.now.height up.now }
-    requires down { IsStepping up.now.height down.now }
-    ensures value { IfOk result (AreFactorsOf up.now down.now) }
-    ensures factors { IfOk result (AreFactors up.now.height) }
-{
-    let up_plus = one_plus(alloc, 1, up)?;
-    let up_minus = one_plus(alloc, -1, up)?;
-    let down_plus = one_plus(alloc, 1, down)?;
-    let down_minus = one_plus(alloc, -1, down)?;
-    Ok(Factors {
-        element: sandwich(alloc, &up_plus, &down_minus)?,
-        inverse: sandwich(alloc, &up_minus, &down_plus)?,
-        absolute: sandwich(alloc, &up_plus, &down_plus)?,
-    })
 }
 
 /// Tests that the work on a matrix is not huge.

@@ -9,7 +9,8 @@ use lie_orbit::OrbitFault;
 use std::alloc::{AllocError, AllocFailed};
 use thiserror::Error;
 
-/// The first of these faults, in this order. `specs/OrbitFaults.antt` says when each one comes from an orbit.
+/// The first of these faults, in this order. `specs/OrbitFaults.antt` says when each one comes from an orbit, and
+/// `specs/Tables.antt` when from a table.
 #[derive(Debug, PartialEq, Eq, Drop, Error)]
 pub enum ModuleFault {
     #[error("out of memory")]
@@ -17,6 +18,10 @@ pub enum ModuleFault {
     /// The first root that pairs with the weight to more than 1, or to less than -1.
     #[error("the weight pairs with the coroot {} to more than 1 or less than -1", .0.number())]
     NotMinuscule(RootId),
+    /// The first entry of a table, counted from 1, that stands in the place of an earlier one or does not raise weights by its
+    /// power times its root.
+    #[error("entry {0} repeats an earlier one or does not fit its weights")]
+    Table(usize),
     /// The dimension is above the limit; it is the number, or 1,025 where it is larger.
     #[error("there are {0} weights, or more where that is 1025")]
     Wide(u64),

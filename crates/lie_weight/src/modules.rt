@@ -1,8 +1,9 @@
 //! A module: how it is kept, and its readers.
 
 ghost use Rattle.std.specs.Prelude.{◌≡◌, ◌*◌, ◌≤◌, ◌<◌, [], length, slice_index_or, unsigned_abs};
+ghost use Rattle.lie_datum.specs.RootDatum.{IsWithin};
 ghost use Rattle.lie_const.specs.Modules.{dimension, top, divided_power};
-ghost use Rattle.lie_weight.specs.Kept.{IsSquare};
+ghost use Rattle.lie_weight.specs.Kept.{IsSquare, IsKeptModule};
 
 use lie_datum::{RootId, Vector};
 use lie_mat::Mat;
@@ -31,6 +32,13 @@ impl Model for Module {
 }
 
 impl Module {
+    /// That the module is kept as `specs/Kept.antt` says.
+    pub(crate) fn kept(&self)
+        ensures { IsKeptModule self.now }
+    {
+        let _ = &self.powers;
+    }
+
     /// The number of basis vectors.
     pub fn dim(&self) -> usize
         ensures value { result ≡ dimension self.now }
@@ -42,7 +50,8 @@ impl Module {
     /// The weight of a basis vector, which counts from 0.
     pub fn weight(&self, a: usize) -> &Vector
         requires { a < dimension self.now }
-        ensures { result.now ≡ slice_index_or self.now.weights a [] }
+        ensures value { result.now ≡ slice_index_or self.now.weights a [] }
+        ensures bound { IsWithin 1000000 result.now }
     {
         &self.weights[a]
     }

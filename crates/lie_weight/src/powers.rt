@@ -1,11 +1,11 @@
 //! The matrices of one root in a module that is being made.
 
-ghost use Rattle.std.specs.Prelude.{◌≡◌, ◌≤◌, ◌*◌, [], IfOk, IsTrue, ◌↔◌, length, replicate, unsigned_abs, pos};
-ghost use Rattle.lie_ring.specs.Integers.{integers};
-ghost use Rattle.lie_ring.specs.Matrices.{AllFit, zero_matrix};
+ghost use Rattle.std.specs.Prelude.{◌≡◌, ◌≤◌, ◌*◌, [], IfOk, length, replicate, unsigned_abs};
+ghost use Rattle.std.specs.List.{All};
+ghost use Rattle.lie_datum.specs.RootDatum.{IsWithin};
 ghost use Rattle.lie_const.specs.Modules.{dimension};
-ghost use Rattle.lie_weight.specs.Kept.{ArePowers};
-ghost use Rattle.lie_weight.specs.Completion.{Keeps, with_powers};
+ghost use Rattle.lie_weight.specs.Kept.{IsSquare, ArePowers};
+ghost use Rattle.lie_weight.specs.Completion.{IsKeptCount, IsTrimmed, with_powers};
 
 use crate::modules::Module;
 use lie_datum::{RootId, Vector};
@@ -22,6 +22,7 @@ impl Module {
     ) -> Result<Module, AllocError>
         requires positive { positive ≤ 120 }
         requires few { length weights.items ≤ 1024 }
+        requires light { All (IsWithin 1000000) weights.items }
         ensures { IfOk result (λ v. v ≡ record { positive = positive; weights = weights.items; powers = replicate (2 * positive) [] }) }
     {
         let mut powers = Vec::new(alloc);
@@ -53,25 +54,34 @@ impl Module {
     }
 }
 
-/// Whether all entries are 0.
-fn is_zero(alloc: Global, matrix: &Mat<Ints>) -> Result<bool, AllocError>
-    requires { AllFit integers matrix.now }
-    ensures { IfOk result (λ b. IsTrue b ↔ (matrix.now ≡ zero_matrix (pos 0) matrix.now.height matrix.now.width)) }
+/// How many matrices there are up to the last that is not 0.
+fn kept_count(alloc: Global, size: usize, list: &[Mat<Ints>]) -> Result<usize, AllocError>
+    requires size { size ≤ 1024 }
+    requires squares { All (IsSquare size) list.now }
+    ensures { IfOk result (IsKeptCount size list.now) }
 {
-    let zero = Mat::zero(alloc, matrix.rows(), matrix.cols())?;
-    Ok(matrix.same(&Ints, &zero))
+    let zero = Mat::zero(alloc, size, size)?;
+    let mut count = 0;
+    for k in 0..list.len() {
+        if !list[k].same(&Ints, &zero) {
+            count = k + 1;
+        }
+    }
+    Ok(count)
 }
 
-/// The matrices of a root whose first power is this one, and whose other powers are 0.
-pub(crate) fn kept(alloc: Global, matrix: Mat<Ints>) -> Result<Vec<Mat<Ints>>, AllocError>
-    requires square { matrix.width ≡ matrix.height }
-    requires fit { AllFit integers matrix }
-    ensures { IfOk result (λ list. Keeps matrix.height matrix list.items) }
+/// The matrices up to the last that is not 0.
+pub(crate) fn kept(
+    alloc: Global,
+    size: usize,
+    list: Vec<Mat<Ints>>,
+) -> Result<Vec<Mat<Ints>>, AllocError>
+    requires size { size ≤ 1024 }
+    requires squares { All (IsSquare size) list.items }
+    ensures { IfOk result (λ v. IsTrimmed size list.items v.items) }
 {
-    let _ = matrix.rows();
-    let mut powers = Vec::new(alloc);
-    if !is_zero(alloc, &matrix)? {
-        powers.push(matrix)?;
-    }
-    Ok(powers)
+    let mut list = list;
+    let count = kept_count(alloc, size, &list)?;
+    list.truncate(count);
+    Ok(list)
 }

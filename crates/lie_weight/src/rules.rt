@@ -1,63 +1,13 @@
 //! Rules for the entries of integer matrices.
 
-ghost use Rattle.std.specs.Prelude.{◌≡◌, ◌≤◌, ℕ, ◌<◌, ◌^◌, pos, ◌+ℤ◌, ◌*ℤ◌, IfOk, nat_abs, unsigned_abs, cond};
+ghost use Rattle.std.specs.Prelude.{◌≡◌, ◌≤◌, ℕ, ◌<◌, ◌^◌, pos, ◌*ℤ◌, IfOk, nat_abs, unsigned_abs};
 ghost use Rattle.lie_ring.specs.Integers.{integers};
 ghost use Rattle.lie_ring.specs.Matrices.{AllFit, table, scaled};
 ghost use Rattle.lie_weight.specs.Conjugation.{absolute};
-ghost use Rattle.lie_weight.specs.Factors.{one_plus, IsBoundedBy};
 
 use lie_mat::{Entries, Mat, build};
 use lie_ring::{Ints, RingStop};
 use std::alloc::{AllocError, Global};
-
-/// The matrix 1 + c M.
-#[derive(Drop)]
-struct Shear<'a> {
-    ints: &'a Ints,
-    factor: i128,
-    matrix: &'a Mat<Ints>,
-    ghost square: { matrix.now.width ≡ matrix.now.height },
-    ghost unit: { unsigned_abs factor ≤ 1 },
-    ghost small: { IsBoundedBy matrix.now.height 1 matrix.now },
-}
-
-impl<'a> Entries for Shear<'a> {
-    type Ring = Ints;
-
-    ghost use Rattle.lie_weight.specs.Factors.{one_plus_entry};
-
-    ghost over = { λ s. s.ints.now };
-
-    ghost height = { λ s. s.matrix.now.height };
-
-    ghost width = { λ s. s.matrix.now.height };
-
-    ghost value = { λ s. one_plus_entry s.factor s.matrix.now };
-
-    ghost is_wide = { λ _ _ _. ⊥ };
-
-    fn ring(&self) -> &Ints {
-        self.ints
-    }
-
-    fn entry(&self, _alloc: Global, row: usize, col: usize) -> Result<Option<i128>, RingStop> {
-        match self.matrix.get(row, col) {
-            None => Ok(Some(sheared(row == col, self.factor, 0))),
-            Some(e) => Ok(Some(sheared(row == col, self.factor, *e))),
-        }
-    }
-}
-
-/// A multiple of an entry, with 1 added on the diagonal.
-fn sheared(diagonal: bool, factor: i128, e: i128) -> i128
-    requires unit { unsigned_abs factor ≤ 1 }
-    requires small { nat_abs e ≤ 1 }
-    ensures value { result ≡ cond diagonal (pos 1) (pos 0) +ℤ factor *ℤ e }
-    ensures bound { nat_abs result ≤ 2 }
-{
-    let product = factor * e;
-    if diagonal { 1 + product } else { product }
-}
 
 /// The absolute values of the entries.
 #[derive(Drop)]
@@ -96,7 +46,7 @@ impl<'a> Entries for Sizes<'a> {
 }
 
 /// The absolute value of an entry.
-fn absolute_value(e: i128) -> i128
+pub(crate) fn absolute_value(e: i128) -> i128
     requires { nat_abs e < 2 ^ 126 }
     ensures { result ≡ pos (nat_abs e) }
 {
@@ -141,11 +91,12 @@ impl<'a> Entries for Multiple<'a> {
     }
 }
 
-/// An entry times a sign.
-fn signed(sign: i128, e: i128) -> i128
+/// An entry times 1 or -1.
+pub(crate) fn signed(sign: i128, e: i128) -> i128
     requires unit { unsigned_abs sign ≤ 1 }
     requires fit { nat_abs e < 2 ^ 126 }
-    ensures { result ≡ sign *ℤ e }
+    ensures value { result ≡ sign *ℤ e }
+    ensures bound { unsigned_abs result ≤ nat_abs e }
 {
     sign * e
 }
@@ -170,26 +121,6 @@ pub(crate) fn built<E: Entries<Ring = Ints>>(
         Err(RingStop::NoMemory) => Err(AllocError),
         Err(RingStop::Wide) => unreachable!(),
     }
-}
-
-/// The matrix 1 + c M, where M is square with entries 0, 1 and -1.
-pub(crate) fn one_plus(
-    alloc: Global,
-    factor: i128,
-    matrix: &Mat<Ints>,
-) -> Result<Mat<Ints>, AllocError>
-    requires square { matrix.now.width ≡ matrix.now.height }
-    requires unit { unsigned_abs factor ≤ 1 }
-    requires small { IsBoundedBy matrix.now.height 1 matrix.now }
-    ensures value { IfOk result (λ m. m ≡ one_plus factor matrix.now) }
-    ensures fit { IfOk result (AllFit integers) }
-{
-    let rule = Shear {
-        ints: &Ints,
-        factor,
-        matrix,
-    };
-    built(alloc, &rule, matrix.rows(), matrix.rows())
 }
 
 /// The matrix of the absolute values of the entries.

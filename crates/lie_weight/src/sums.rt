@@ -7,14 +7,18 @@ ghost use Rattle.lie_ring.specs.Matrices.{AllFit, direct_sum, zero_matrix};
 ghost use Rattle.lie_datum.specs.RootList.{IsNumber};
 ghost use Rattle.lie_const.specs.Modules.{IsModule, dimension, divided_power};
 ghost use Rattle.lie_weight.specs.Kept.{IsSquare, ArePowers};
-ghost use Rattle.lie_weight.specs.Sums.{IsSum, IsDirectSum};
+ghost use Rattle.lie_weight.specs.Sums.{IsSum, IsDirectSum, LoadsSum};
 ghost use Rattle.lie_weight.specs.CarrierParts.{sum_powers, dimensions};
 
+use crate::faults::ModuleFault;
 use crate::modules::Module;
 use lie_datum::{Datum, RootId};
 use lie_mat::Mat;
 use lie_ring::{Ints, RingStop};
 use std::alloc::{AllocError, Global};
+
+/// A sum of more weights makes no module.
+const LIMIT: usize = 300;
 
 /// E_r^(k), where the zero matrix stands for each power past the last.
 fn power_or<'a>(space: &'a Module, r: RootId, k: u32, none: &'a Mat<Ints>) -> &'a Mat<Ints>
@@ -59,6 +63,8 @@ fn root_powers(
     ensures value { IfOk result (λ list. list.items ≡ sum_powers a.now b.now r) }
     ensures kept { IfOk result (λ list. ArePowers (dimension a.now + dimension b.now) list.items) }
 {
+    a.kept();
+    b.kept();
     let no_first = Mat::zero(alloc, a.dim(), a.dim())?;
     let no_second = Mat::zero(alloc, b.dim(), b.dim())?;
     let mut powers = Vec::new(alloc);
@@ -84,6 +90,8 @@ pub(crate) fn sum(
     ensures { IfOk result (IsSum datum.now a.now b.now) }
 {
     datum.loaded();
+    a.kept();
+    b.kept();
     let positive = datum.m();
     let mut weights = Vec::from_slice(alloc, a.weights())?;
     weights.extend_from_slice(b.weights())?;
@@ -123,4 +131,21 @@ fn nothing(alloc: Global, datum: &Datum) -> Result<Module, AllocError>
 {
     datum.loaded();
     Module::bare(alloc, datum.m(), Vec::new(alloc))
+}
+
+impl Module {
+    /// The direct sum of two modules, with the basis of `a` before that of `b`.
+    ///
+    /// Modules keep their weights within 1,000,000, so no weight of the sum is heavy.
+    pub fn sum(alloc: Global, datum: &Datum, a: &Module, b: &Module) -> Result<Module, ModuleFault>
+        requires a { IsModule datum.now a.now }
+        requires b { IsModule datum.now b.now }
+        ensures { LoadsSum datum.now a.now b.now result }
+    {
+        let count = a.dim() + b.dim();
+        if count > LIMIT {
+            return Err(ModuleFault::Wide(count.min(1025) as u64));
+        }
+        Ok(sum(alloc, datum, a, b)?)
+    }
 }

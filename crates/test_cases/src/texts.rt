@@ -1,6 +1,6 @@
 //! What no line of a script shows by itself; lines and their refusals stand in the program's transcripts.
 
-use lie_script::{Fed, Lines, Names, NoNames, Text, put_number};
+use lie_script::{Fed, Lines, Names, NoNames, Text, number_of, put_number};
 use std::alloc::Global;
 use std::process::Abort;
 
@@ -30,6 +30,23 @@ fn numbers_are_decimal(rt: HostRuntime) {
         decimal(&rt, alloc, 16_777_216).as_slice(),
         b"16777216".as_slice()
     );
+}
+
+#[test]
+fn digits_spell_numbers(rt: HostRuntime) {
+    // bytes, the number that they spell
+    let cases = [
+        (b"7".as_slice(), Some(7)),
+        (b"000042".as_slice(), Some(42)),
+        (b"999999999999999999".as_slice(), Some(999_999_999_999_999_999)),
+        (b"1000000000000000000".as_slice(), None),
+        (b"-1".as_slice(), None),
+        (b"4x".as_slice(), None),
+        (b"".as_slice(), None),
+    ];
+    for (bytes, number) in cases {
+        assert_eq!(rt; number_of(bytes), number);
+    }
 }
 
 #[test]

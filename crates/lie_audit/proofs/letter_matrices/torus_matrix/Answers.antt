@@ -19,7 +19,7 @@ loop-i-preserved c =
     let i = c.loop-i.i in
     let within : i < dimension v = let a = c.loop-i-test.true in let b = c.dim-n.ensures.value in omega (arith, a, b) in
     c.set.ensures
-    ∙ ap₂ (λ M e. with_entry 0 M i i e) c.loop-i.invariant (c.char_of-value.ensures.value ∙ ap (character c.args.field.now c.args.t.now) c.weight.ensures)
+    ∙ ap₂ (λ M e. with_entry 0 M i i e) c.loop-i.invariant (c.char_of-value.ensures.value ∙ ap (character c.args.field.now c.args.t.now) c.weight.ensures.value)
     ∙ diagonal-next (dimension v) i (weight_value c.args.field.now v c.args.t.now) within
 
 pub returns : goal.returns

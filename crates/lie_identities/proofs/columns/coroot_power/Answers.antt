@@ -16,7 +16,7 @@ pairing-exponent-requires-clause-y c =
 pub overflow_cast-exponent : goal.overflow_cast-exponent
 overflow_cast-exponent c =
     let s = c.args.steps.now in
-    let e = coroot-exponent s.datum.now c.loaded.ensures s.module.now c.args.i c.args.row c.simple.result c.weight.result.now c.coroot-coroot.result.now c.pairing-exponent.result c.requires.i c.pairing-exponent.ensures c.weight.ensures c.coroot-coroot.ensures c.simple.ensures.root in
+    let e = coroot-exponent s.datum.now c.loaded.ensures s.module.now c.args.i c.args.row c.simple.result c.weight.result.now c.coroot-coroot.result.now c.pairing-exponent.result c.requires.i c.pairing-exponent.ensures c.weight.ensures.value c.coroot-coroot.ensures c.simple.ensures.root in
     let h = s.pairings c.args.i c.args.row c.requires.row in
     let l : nat_abs c.pairing-exponent.result ≤ 800000000 = subst (λ z. nat_abs z ≤ 800000000) (sym e) h in
     omega (arith, ints, l)
@@ -24,7 +24,7 @@ overflow_cast-exponent c =
 pub narrow_monomial-requires-clause-t_small : goal.narrow_monomial-requires-clause-t_small
 narrow_monomial-requires-clause-t_small c =
     let s = c.args.steps.now in
-    let e = coroot-exponent s.datum.now c.loaded.ensures s.module.now c.args.i c.args.row c.simple.result c.weight.result.now c.coroot-coroot.result.now c.pairing-exponent.result c.requires.i c.pairing-exponent.ensures c.weight.ensures c.coroot-coroot.ensures c.simple.ensures.root in
+    let e = coroot-exponent s.datum.now c.loaded.ensures s.module.now c.args.i c.args.row c.simple.result c.weight.result.now c.coroot-coroot.result.now c.pairing-exponent.result c.requires.i c.pairing-exponent.ensures c.weight.ensures.value c.coroot-coroot.ensures c.simple.ensures.root in
     let h = s.pairings c.args.i c.args.row c.requires.row in
     let l : nat_abs c.pairing-exponent.result ≤ 800000000 = subst (λ z. nat_abs z ≤ 800000000) (sym e) h in
     omega (arith, ints, l)
@@ -32,7 +32,7 @@ narrow_monomial-requires-clause-t_small c =
 pub returns-clause-value : goal.returns-clause-value
 returns-clause-value c =
     let s = c.args.steps.now in
-    let e = coroot-exponent s.datum.now c.loaded.ensures s.module.now c.args.i c.args.row c.simple.result c.weight.result.now c.coroot-coroot.result.now c.pairing-exponent.result c.requires.i c.pairing-exponent.ensures c.weight.ensures c.coroot-coroot.ensures c.simple.ensures.root in
+    let e = coroot-exponent s.datum.now c.loaded.ensures s.module.now c.args.i c.args.row c.simple.result c.weight.result.now c.coroot-coroot.result.now c.pairing-exponent.result c.requires.i c.pairing-exponent.ensures c.weight.ensures.value c.coroot-coroot.ensures c.simple.ensures.root in
     let h = s.pairings c.args.i c.args.row c.requires.row in
     let l : nat_abs c.pairing-exponent.result ≤ 800000000 = subst (λ z. nat_abs z ≤ 800000000) (sym e) h in
     let back : to_z w32 (of_z w32 (to_z w128 (of_z w128 c.pairing-exponent.result))) ≡ c.pairing-exponent.result = omega (arith, ints, l) in

@@ -30,7 +30,7 @@ returns-then-not-is_raised c =
         row = within;
         col = c.requires.col;
         nonzero = λ z. kept.nonzero (kept.here ∙ ap (λ N. entry (pos 0) N c.in-Some.row c.args.col) same ∙ z);
-        weights = λ w. (let t = c.is_raised.ensures.1 (c.weight.ensures ∙ w ∙ sym (ap₂ (λ x y. plus x (times (pos c.args.k) y)) c.weight-in-Some.ensures c.root-root.ensures)) in
+        weights = λ w. (let t = c.is_raised.ensures.1 (c.weight.ensures.value ∙ w ∙ sym (ap₂ (λ x y. plus x (times (pos c.args.k) y)) c.weight-in-Some.ensures.value c.root-root.ensures)) in
             let f = c.if-not-is_raised.true in cc);
       };
       earlier = zero-graded d v c.args.r c.args.k c.args.col M same c.loop-row.from c.in-Some.row c.loop-row.invariant.1 kept.before;
@@ -46,7 +46,7 @@ loop-row-preserved c =
       omega (arith, few),
       row-more d v c.args.r c.args.k c.args.col c.in-Some.row
           (zero-graded d v c.args.r c.args.k c.args.col M c.power-matrix.ensures.value c.loop-row.from c.in-Some.row c.loop-row.invariant.1 kept.before)
-          (λ u. u.weights (sym c.weight.ensures ∙ c.is_raised.ensures.0 c.if-not-is_raised.false ∙ ap₂ (λ x y. plus x (times (pos c.args.k) y)) c.weight-in-Some.ensures c.root-root.ensures)),
+          (λ u. u.weights (sym c.weight.ensures.value ∙ c.is_raised.ensures.0 c.if-not-is_raised.false ∙ ap₂ (λ x y. plus x (times (pos c.args.k) y)) c.weight-in-Some.ensures.value c.root-root.ensures)),
     )
 
 pub returns : goal.returns

@@ -66,6 +66,6 @@ returns c =
       holds = q;
     } in made) in
     match_both c.root_between.result (HasNoRootBetween d c.weight-x.result.now c.weight-y.result.now) (HasNoImage f d v ps at c.args.r) (IsRootBetween d c.weight-x.result.now c.weight-y.result.now) (IsImage f d v ps at c.args.r)
-    (λ h. holds (HasNoRootBetween d) (subst (λ y. HasNoRootBetween d (weight_at v (slice_index_or ps (slice_index_or at row 0) 0)) y) c.weight-y.ensures (subst (λ x. HasNoRootBetween d x c.weight-y.result.now) c.weight-x.ensures h)))
-    (λ s h. holds (λ x y. IsRootBetween d x y s) (subst (λ y. IsRootBetween d (weight_at v (slice_index_or ps (slice_index_or at row 0) 0)) y s) c.weight-y.ensures (subst (λ x. IsRootBetween d x c.weight-y.result.now s) c.weight-x.ensures h)))
+    (λ h. holds (HasNoRootBetween d) (subst (λ y. HasNoRootBetween d (weight_at v (slice_index_or ps (slice_index_or at row 0) 0)) y) c.weight-y.ensures.value (subst (λ x. HasNoRootBetween d x c.weight-y.result.now) c.weight-x.ensures.value h)))
+    (λ s h. holds (λ x y. IsRootBetween d x y s) (subst (λ y. IsRootBetween d (weight_at v (slice_index_or ps (slice_index_or at row 0) 0)) y s) c.weight-y.ensures.value (subst (λ x. IsRootBetween d x c.weight-y.result.now s) c.weight-x.ensures.value h)))
     c.root_between.ensures

@@ -9,7 +9,7 @@ pub returns : goal.returns
 returns c =
     let f = c.args.field.now in
     let d = c.args.datum.now in
-    let v = c.args.space.now in
+    let v = c.args.audited.now.module in
     let D = c.args.d.now in
     let xs = c.axis_values-entries.result in
     let dim = c.d.ensures in

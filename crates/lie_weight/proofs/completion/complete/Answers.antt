@@ -1,13 +1,13 @@
-use Rattle.std.proofs.Common.{◌<◌, ℤ, arith, refl}
+use Rattle.std.proofs.Common.{◌<◌, ℤ, arith}
 use Rattle.lie_datum.specs.RootList.{IsNumber}
 use Rattle.lie_const.specs.Signs.{eta_of}
 use Rattle.lie_weight.specs.Conjugation.{absolute_height}
-use Rattle.lie_weight.proofs.CompletionLemmas.{partly_start, partly_completed, partly_small}
+use Rattle.lie_weight.proofs.CompletionLemmas.{partly_start, partly_completed, partly_small, extends_refl}
 use Rattle.lie_weight.proofs.completion.complete.Goals as goal
 use Rattle.lie_weight.proofs.completion.complete.Goals.{After-loop-height}
 
 pub loop-height-init : goal.loop-height-init
-loop-height-init c = (partly_start c.args.datum.now (eta_of c.args.signs.now) c.args.space.now c.requires.stepped, c.requires.factors, refl)
+loop-height-init c = (partly_start c.args.datum.now (eta_of c.args.signs.now) c.args.space.now c.requires.draft, c.requires.factors, extends_refl c.args.datum.now c.args.space.now c.requires.draft)
 
 top_is : (c : After-loop-height) → (r : ℤ) → IsNumber c.args.datum.now r → absolute_height c.args.datum.now r < c.loop-height.height
 top_is c r n = let h = c.highest-height-end.ensures.all r n in let t = c.loop-height-test.false in omega (arith, h, t)

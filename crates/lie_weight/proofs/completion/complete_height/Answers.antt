@@ -7,8 +7,8 @@ use Rattle.lie_datum.proofs.NumberLemmas.{numbered_at, IsAtPlace}
 use Rattle.lie_const.specs.Modules.{Module}
 use Rattle.lie_const.specs.Signs.{eta_of}
 use Rattle.lie_weight.specs.Conjugation.{absolute_height, IsLowering}
-use Rattle.lie_weight.specs.Completion.{IsPartly, AreAllFactors}
-use Rattle.lie_weight.proofs.CompletionLemmas.{partly_at, partly_after, partly_skip, partly_level}
+use Rattle.lie_weight.specs.Completion.{Extends, IsPartly, AreAllFactors}
+use Rattle.lie_weight.proofs.CompletionLemmas.{partly_at, partly_after, partly_skip, partly_level, extends_trans}
 use Rattle.lie_weight.proofs.completion.complete_height.Goals as goal
 use Rattle.lie_weight.proofs.completion.complete_height.Goals.{After-at-r, then-is_past+then-unsigned_abs-height+in_ok-complete_root, else-is_past, else-is_past-via-then-is_past+else-unsigned_abs-height, else-is_past-via-else-is_past}
 
@@ -40,8 +40,8 @@ loop-place-preserved c =
           let f : SFits w32 w.height.result = search rules in
           let high : absolute_height d r ≡ h = sym (w.unsigned_abs.ensures.value ∙ ap unsigned_abs (to_z-of_z w32 w.height.result f ∙ w.height.ensures)) ∙ w.if-unsigned_abs-height.true in
           let e = w.in_ok-complete_root.ensures in
-          subst (λ (m : Module). IsPartly d eta h (p + 1) m × AreAllFactors d m c.args.factors.now × (m.weights ≡ c.args.space.now.weights)) (sym w.space-is)
-          (partly_after d eta h p w.complete_root.new.space r high a.place e.partly, e.factors, e.weights ∙ inv.2)
+          subst (λ (m : Module). IsPartly d eta h (p + 1) m × AreAllFactors d m c.args.factors.now × Extends d c.args.space.now m) (sym w.space-is)
+          (partly_after d eta h p w.complete_root.new.space r high a.place e.partly, e.factors, extends_trans d c.args.space.now v w.complete_root.new.space inv.2 e.extends)
       | else-is_past w ↦
           let none : absolute_height d r ≡ h → (i : ℕ) (s : ℤ) → ¬ IsLowering d i r s =
           elim w.else-is_past.branch [
@@ -52,7 +52,7 @@ loop-place-preserved c =
             | else-is_past-via-else-is_past x ↦ λ high i s l.
                 (let t = c.is_past.ensures.1 l.past in let n = x.if-is_past.false in absurd (cc))
           ] in
-          subst (λ (m : Module). IsPartly d eta h (p + 1) m × AreAllFactors d m c.args.factors.now × (m.weights ≡ c.args.space.now.weights)) (sym w.space-is)
+          subst (λ (m : Module). IsPartly d eta h (p + 1) m × AreAllFactors d m c.args.factors.now × Extends d c.args.space.now m) (sym w.space-is)
           (partly_skip d eta h p v r a.number a.place none inv.0, inv.1, inv.2)
     ]
 

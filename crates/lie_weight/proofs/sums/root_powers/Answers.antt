@@ -1,10 +1,11 @@
 -- One matrix more.
-use Rattle.std.proofs.Common.{◌≡◌, suc, ◌+◌, ◌≤◌, pos, max, sym, ap, ap₂, subst, ◌∙◌, arith}
+use Rattle.std.proofs.Common.{◌≡◌, suc, ◌+◌, ◌-◌, ◌*◌, ◌≤◌, pos, max, sym, ap, ap₂, subst, ◌∙◌, arith}
 use Rattle.std.specs.List.{All}
 use Rattle.lie_ring.specs.Matrices.{direct_sum}
 use Rattle.lie_const.specs.Modules.{dimension}
 use Rattle.lie_weight.specs.Kept.{IsSquare}
 use Rattle.lie_weight.specs.CarrierParts.{sum_power}
+use Rattle.lie_weight.proofs.KeptLemmas.{top_few}
 use Rattle.lie_weight.proofs.ModuleSums.{powers_push, blocks_square, all_push, powers_few}
 use Rattle.lie_weight.proofs.sums.root_powers.Goals as goal
 
@@ -26,4 +27,6 @@ returns-clause-kept c =
     let v = c.args.a.now in
     let w = c.args.b.now in
     let l : c.loop-k.k ≤ max c.top.result c.top-2.result = let e = c.loop-k.auto.k-end in let m = c.max-k-end.ensures in omega (arith, e, m) in
-    record { few = powers_few v w c.args.r c.loop-k.k c.top.result c.top-2.result c.loop-k.powers.items c.loop-k.invariant.0 l c.top.ensures.bound c.top-2.ensures.bound; squares = c.loop-k.invariant.1 }
+    let first : c.top.result ≤ 16 * (dimension v - 1) = let f = top_few v c.kept.ensures c.args.r in let e = c.top.ensures.value in omega (arith, f, e) in
+    let second : c.top-2.result ≤ 16 * (dimension w - 1) = let f = top_few w c.kept-2.ensures c.args.r in let e = c.top-2.ensures.value in omega (arith, f, e) in
+    record { few = powers_few v w c.args.r c.loop-k.k c.top.result c.top-2.result c.loop-k.powers.items c.loop-k.invariant.0 l first second; squares = c.loop-k.invariant.1 }

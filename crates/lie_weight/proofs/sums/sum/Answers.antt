@@ -35,7 +35,7 @@ invariant_of-result c =
     let Mss = map (λ l. l.items) c.loop-place.powers.items in
     let is = sum_filled v w m c.extend_from_slice.new.self.items Mss c.loop-place.place p ws c.loop-place.invariant.0 end in
     let kept = subst (λ (t : Module). All (ArePowers (dimension v + dimension w)) t.powers) is c.loop-place.invariant.1 in
-    subst IsKeptModule (sym is) (sum_kept d v w c.requires.a c.requires.b (let b = c.m-positive.ensures.bound in let e = c.m-positive.ensures.value in omega (arith, b, e)) c.requires.few kept)
+    subst IsKeptModule (sym is) (sum_kept d v w c.requires.a c.requires.b (let b = c.m-positive.ensures.bound in let e = c.m-positive.ensures.value in omega (arith, b, e)) c.requires.few c.kept.ensures.light c.kept-2.ensures.light kept)
 
 pub returns : goal.returns
 returns c =

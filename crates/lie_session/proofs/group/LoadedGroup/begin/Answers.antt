@@ -2,7 +2,8 @@ use Rattle.std.proofs.Common.{◌≡◌, Some, refl, sym, ap, ◌∙◌, subst}
 use Rattle.std.specs.Option.{option_copied}
 use Rattle.std.proofs.lemmas.Result.{err_from_is_err_and}
 use Rattle.lie_letters.specs.SignedFrames.{SignedFrame}
-use Rattle.lie_session.specs.Held.{LoadedGroup, IsBlockOf}
+use Rattle.lie_session.specs.Held.{LoadedGroup, AreRowsOf}
+use Rattle.lie_session.specs.declared.block.Block.TheVariants as block
 use Rattle.lie_session.specs.Named.{named_of}
 use Rattle.lie_session.proofs.BlockLemmas.{begin_none, begin_err, begin_ok, begun_held}
 use Rattle.lie_session.proofs.StageLemmas.{audited_held}
@@ -44,7 +45,7 @@ invariant_of-self c =
     let held = audited_held c.self.inside.group.frame entries c.args.name.now a c.self.invariant.audited is in
     record {
       audited = c.self.invariant.audited;
-      block = subst (λ (k : SignedFrame). IsBlockOf k (named_of entries) c.in_ok-begun.field-0) frame (begun_held f entries c.args.name.now a c.in_ok-begun.field-0 c.in_ok-begun.ensures is (held.datum ∙ sym (ap (λ (k : SignedFrame). k.datum) frame)) c.loaded.ensures c.in_ok-covering.ensures);
+      block = subst (λ (k : SignedFrame). AreRowsOf k (named_of entries) c.in_ok-begun.field-0) frame (begun_held f entries c.args.name.now a c.in_ok-begun.field-0 c.in_ok-begun.ensures is (held.datum ∙ sym (ap (λ (k : SignedFrame). k.datum) frame)) c.loaded.ensures c.module.ensures.audited.cover c.in_ok-covering.ensures);
     }
 
 pub returns : goal.returns
@@ -57,4 +58,4 @@ returns c =
     let frame : f ≡ c.self.inside.group.frame = c.frame.view_is ∙ c.frame-frame.ensures in
     begin_ok c.args.self.now entries (ap (λ (g : LoadedGroup). g.modules) c.self.view_is) c.args.name.now a f c.in_ok-begun.field-0 _ is
     (frame ∙ ap (λ (g : LoadedGroup). g.frame) c.self.view_is) (held.datum ∙ sym (ap (λ (k : SignedFrame). k.datum) frame)) c.in_ok-covering.ensures c.in_ok-begun.ensures
-    (ap (λ (g : LoadedGroup). record g { block = Some c.in_ok-begun.field-0 }) c.self.view_is)
+    (ap (λ (g : LoadedGroup). record g { block = Some (block.Rows c.in_ok-begun.field-0) }) c.self.view_is)

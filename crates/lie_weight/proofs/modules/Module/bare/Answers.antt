@@ -15,6 +15,7 @@ invariant_of-result c =
     record {
       small = c.requires.positive;
       narrow = let f = c.requires.few in omega (arith, f);
+      light = c.requires.light;
       roots = ap length e ∙ length-replicate c.loop.counter [] ∙ count;
       powers = subst (λ (l : _). All (ArePowers n) l) (sym e) (all_empty n c.loop.counter);
     }

@@ -17,6 +17,7 @@ invariant_of-self c =
     record {
       small = c.self.invariant.small;
       narrow = c.self.invariant.narrow;
+      light = c.self.invariant.light;
       roots = ap length new ∙ length-set old c.place-place.result c.args.powers.items ∙ c.self.invariant.roots;
       powers = subst (All (ArePowers (length a.weights.items))) (sym new)
           (All-set (ArePowers (length a.weights.items)) old c.place-place.result c.args.powers.items (subst (λ (m : Module). ArePowers (dimension m) c.args.powers.items) (sym c.self.view_is) c.requires.powers) c.self.invariant.powers);

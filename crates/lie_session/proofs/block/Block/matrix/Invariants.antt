@@ -1,8 +1,0 @@
-use Rattle.std.proofs.Common.{◌≡◌, length}
-use Rattle.lie_mat.specs.Parts.{partial_table}
-use Rattle.lie_ring.specs.Matrices.{entry}
-use Rattle.lie_session.specs.Outcomes.{matrix_of}
-use Rattle.lie_session.proofs.block.Block.matrix.Given as goal
-
-abbrev pub invariant-loop-row : goal.invariant-loop-row
-invariant-loop-row l = l.matrix ≡ partial_table 0 (length l.self.rows) (length l.self.rows) (entry 0 (matrix_of (length l.self.rows) l.self.rows)) l.row 0

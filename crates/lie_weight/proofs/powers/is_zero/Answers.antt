@@ -1,4 +1,0 @@
-use Rattle.lie_weight.proofs.powers.is_zero.Goals as goal
-
-pub same-requires-clause-b_fit : goal.same-requires-clause-b_fit
-same-requires-clause-b_fit c = c.in_ok-zero.ensures.fit (record {})
