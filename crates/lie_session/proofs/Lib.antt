@@ -20,4 +20,5 @@ pub mod OneOutcome
 pub mod OneOutputLemmas
 pub mod ProgressLemmas
 pub mod CauseLemmas
+pub mod DemoLemmas
 pub mod WorkedExamples

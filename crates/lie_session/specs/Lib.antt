@@ -14,6 +14,8 @@ pub mod Obeyed
 pub mod Steps
 pub mod Changes
 pub mod Output
+pub mod Tasks
+pub mod Summary
 pub mod Runs
 pub mod Loaded
 pub mod Printed
