@@ -1,6 +1,10 @@
 -- What is known of modules and signs that were made.
-use Rattle.std.proofs.Common.{◌≡◌, ℕ, zero, suc, ◌*◌, ℤ, pos, negsuc, length, Ok, Err, Result, IfOk, ap, ◌∙◌, arith}
+use Rattle.std.proofs.Common.{◌≡◌, ℕ, zero, suc, ◌+◌, ◌-◌, ◌*◌, ℤ, pos, negsuc, List, [], length, get_or, Ok, Err, Result, IfOk, unsigned_abs, inl, inr, sym, ap, subst, ◌∙◌, arith}
+use Rattle.std.specs.List.{All}
+use Rattle.std.proofs.lemmas.Bool.{cases_lt}
+use Rattle.std.proofs.lemmas.List.{get_or_default}
 use Rattle.lie_datum.specs.Vectors.{Vector}
+use Rattle.lie_datum.specs.RootDatum.{IsWithin}
 use Rattle.lie_datum.specs.RootList.{RootDatum, IsLoaded, IsNumber}
 use Rattle.lie_datum.proofs.NumberLemmas.{within, some_within, place_within}
 use Rattle.lie_datum.proofs.SignedRoots.{opposite_number}
@@ -8,7 +12,10 @@ use Rattle.lie_const.specs.Adjoint.{IsAdjoint, IsAdjointOf}
 use Rattle.lie_const.specs.ConstantTables.{ConstantTable, value_of, LoadsConstants}
 use Rattle.lie_const.specs.Modules.{Module, IsModule}
 use Rattle.lie_const.specs.Signs.{Signs, SignTable, IsSignTable}
-use Rattle.lie_weight.specs.OrbitFaults.{LoadsOrbit}
+use Rattle.lie_weight.specs.OrbitFaults.{LoadsOrbit, IsHeavyWeight, IsHeavyAt}
+use Rattle.lie_weight.specs.Tables.{LoadsTable}
+use Rattle.lie_weight.specs.Tensors.{LoadsTensor}
+use Rattle.lie_weight.specs.declared.entry.Entry.{Entry}
 use Rattle.lie_weight.specs.declared.faults.ModuleFault.{ModuleFault}
 use Rattle.lie_audit.specs.SignAnswers.{AreTestedSigns}
 use Rattle.lie_identities.specs.Audit.{HasLightWeights}
@@ -34,6 +41,40 @@ orbit_module d eta w (Err e) loads = tt
 pub orbit_light : (d : RootDatum) (eta : Signs) (w : Vector) (r : Result Module ModuleFault) → LoadsOrbit d eta w r → IfOk r HasLightWeights
 orbit_light d eta w (Ok v) loads = (orbit_is_light d eta w v loads).1
 orbit_light d eta w (Err e) loads = tt
+
+-- a weight of a table is light
+more : (x : Vector) → IsWithin 1000 x → IsWithin 1000000 x
+more x h k z l = let b = h k z l in omega (arith, b)
+
+-- the module of a table
+pub table_shape : (d : RootDatum) (eta : Signs) (ws : List Vector) (es : List Entry) (r : Result Module ModuleFault) → LoadsTable d eta ws es r → IfOk r (IsModule d)
+table_shape d eta ws es (Ok v) loads = loads.1.given.shape
+table_shape d eta ws es (Err e) loads = tt
+
+pub table_light : (d : RootDatum) (eta : Signs) (ws : List Vector) (es : List Entry) (r : Result Module ModuleFault) → All (IsWithin 1000) ws → LoadsTable d eta ws es r → IfOk r HasLightWeights
+table_light d eta ws es (Ok v) small loads = subst (All (IsWithin 1000000)) (sym loads.1.given.weights) (λ k z l. more (get_or ws k z) (small k z l))
+table_light d eta ws es (Err e) small loads = tt
+
+-- a vector that is not heavy
+light_weight : (x : Vector) → ¬ IsHeavyWeight x → IsWithin 1000000 x
+light_weight x h k z l = elim (cases_lt 1000000 (unsigned_abs (get_or x k z))) [
+  | inl heavy ↦ absurd (h (k, get_or x k z, l, sym (get_or_default x k z (get_or x k z) l), heavy))
+  | inr light ↦ light
+]
+
+-- where no weight is heavy, all are light
+light_weights : (ws : List Vector) → ((a : ℕ) → ¬ IsHeavyAt ws a) → All (IsWithin 1000000) ws
+light_weights ws light k z l =
+    light_weight (get_or ws k z) (λ heavy. light (k + 1) (omega arith, omega (arith, l), subst IsHeavyWeight (get_or_default ws k z [] l ∙ ap (λ i. get_or ws i []) (let e : k ≡ k + 1 - 1 = omega arith in e)) heavy))
+
+-- a tensor product
+pub tensor_shape : (d : RootDatum) (v w : Module) (r : Result Module ModuleFault) → LoadsTensor d v w r → IfOk r (IsModule d)
+tensor_shape d v w (Ok s) loads = loads.0.shape
+tensor_shape d v w (Err e) loads = tt
+
+pub tensor_light : (d : RootDatum) (v w : Module) (r : Result Module ModuleFault) → LoadsTensor d v w r → IfOk r HasLightWeights
+tensor_light d v w (Ok s) loads = light_weights s.weights loads.2.0
+tensor_light d v w (Err e) loads = tt
 
 -- signs that are read off are a table of signs
 pub tested_table : (d : RootDatum) (v : Module) (t : SignTable) → AreTestedSigns d v t → IsSignTable d t
