@@ -25,9 +25,7 @@ How sizes come to 2^126 (`large`, `huge`), where a table has entries within 100:
 - weights in a box, where each simple root leads from each place to all above it, with one and the same entry. The relations don't
   hold, but `huge` comes before the audit. `box` makes it; its case has the first entry that is huge and the one before it.
 """
-import os
 import re
-import sys
 from itertools import product as pairs
 from random import Random
 
@@ -35,12 +33,11 @@ import audits
 import carriers
 import forms
 import reductions
+import region
 from audits import HUGE, Numbers, Polynomials, Space, Torus, lowered, table_fault
 from forms import Group, random_word
-from relations import Datum, Module, combined, constants
+from relations import Datum, Module, combined, constants, orbit_weights
 from tables import text
-
-TOP = os.path.join(os.path.dirname(os.path.abspath(__file__)), "..", "crates", "test_transcripts")
 
 KINDS = ("adjoint", "orbit", "sum", "tensor", "dual", "table")
 COMMANDS = ("form", "same", "mul", "inv", "roots", "constant", "weyl", "module", "cover", "matrix", "reduce")
@@ -194,16 +191,7 @@ def orbit_of(d, eta, weight):
     for r in range(2 * d.m):
         if abs(d.pair(weight, r)) > 1:
             raise Refused("notminuscule %d" % d.number(r))
-    members, todo = {weight}, [weight]
-    while todo:
-        x = todo.pop()
-        for i in range(d.l):
-            y = combined((1, x), (-d.pair(x, i), d.vec[i]))
-            if y not in members:
-                members.add(y)
-                todo.append(y)
-    level = lambda x: sum(d.pair(x, s) for s in range(d.m))
-    weights = sorted(members, key=lambda x: (-level(x), tuple(-a for a in x)))
+    weights = orbit_weights(d, weight)
     entries = []
     for b, x in enumerate(weights, 1):
         for i in range(d.l):
@@ -1623,37 +1611,5 @@ def transcripts():
     return "\n\n\n".join("\n\n".join([heading] + cases) for heading, cases in parts) + "\n"
 
 
-def files():
-    """Both files of the crate, each with what it is with these cases: they stand before those of reductions.py."""
-    block, behind = transcripts(), reductions.BY_HAND.partition("\n")[0]
-    for end in ("stdin", "stdout"):
-        path = os.path.join(TOP, end)
-        with open(path, encoding="ascii") as file:
-            stored = file.read()
-        before, mark, last = stored.partition(behind)
-        assert mark
-        before = before.partition(HEADING.partition("\n")[0])[0].rstrip("\n") + "\n"
-        yield path, stored, "\n\n".join([before, block, mark + last])
-
-
-def add():
-    """Writes the cases into both files."""
-    for path, stored, wanted in list(files()):
-        with open(path, "w", encoding="ascii") as file:
-            file.write(wanted)
-
-
-def check():
-    """Tells which file doesn't have these cases."""
-    other = [path for path, stored, wanted in files() if stored != wanted]
-    print("\n".join(other) or "both files have these cases")
-    return bool(other)
-
-
 if __name__ == "__main__":
-    if sys.argv[1:] == ["--check"]:
-        sys.exit(check())
-    if sys.argv[1:] == ["--add"]:
-        add()
-    else:
-        print(transcripts(), end="")
+    region.main(transcripts, HEADING.partition("\n")[0], reductions.BY_HAND.partition("\n")[0])

@@ -14,12 +14,11 @@ Beside that stands what the classical groups are: a matrix is in GL_3 exactly if
 Sp_4 exactly if it keeps the bilinear form that the letters of roots keep. Each matrix of these groups is decided in both ways. For GL_3 and
 SL_3 eight random matrices with such a determinant come beside those of words.
 """
-import os
-import sys
 from itertools import product
 from random import Random
 
 import forms
+import region
 from forms import Group, random_word
 from tables import text
 
@@ -455,37 +454,5 @@ def transcripts():
     return by_hand() + "\n\n" + random_cases()
 
 
-def files():
-    """Both files of the crate, each with what it is with these cases: they stand before those of forms.py."""
-    block, first = transcripts(), BY_HAND.partition("\n")[0]
-    for end in ("stdin", "stdout"):
-        path = os.path.join(os.path.dirname(os.path.abspath(__file__)), "..", "crates", "test_transcripts", end)
-        with open(path, encoding="ascii") as file:
-            stored = file.read()
-        before, mark, last = stored.partition(forms.HEADINGS["form"])
-        assert mark
-        before = before.partition(first)[0].rstrip("\n") + "\n"
-        yield path, stored, "\n\n".join([before, block, mark + last])
-
-
-def add():
-    """Writes the cases into both files."""
-    for path, stored, wanted in files():
-        with open(path, "w", encoding="ascii") as file:
-            file.write(wanted)
-
-
-def check():
-    """Tells which file doesn't have these cases."""
-    other = [path for path, stored, wanted in files() if stored != wanted]
-    print("\n".join(other) or "both files have these cases")
-    return bool(other)
-
-
 if __name__ == "__main__":
-    if sys.argv[1:] == ["--check"]:
-        sys.exit(check())
-    if sys.argv[1:] == ["--add"]:
-        add()
-    else:
-        print(transcripts(), end="")
+    region.main(transcripts, BY_HAND.partition("\n")[0], forms.HEADINGS["form"])

@@ -204,7 +204,8 @@ def adjoint(d, n):
     return v, at
 
 
-def orbit(d, eta, weight):
+def orbit_weights(d, weight):
+    """The orbit of a weight, in the order of the basis: by falling level, then by falling coordinates."""
     members, todo = {weight}, [weight]
     while todo:
         x = todo.pop()
@@ -214,7 +215,11 @@ def orbit(d, eta, weight):
                 members.add(y)
                 todo.append(y)
     level = lambda x: sum(d.pair(x, s) for s in range(d.m))
-    weights = sorted(members, key=lambda x: (-level(x), tuple(-a for a in x)))
+    return sorted(members, key=lambda x: (-level(x), tuple(-a for a in x)))
+
+
+def orbit(d, eta, weight):
+    weights = orbit_weights(d, weight)
     at = {x: k for k, x in enumerate(weights)}
     v = Module(d, weights)
     for r in sorted(range(2 * d.m), key=lambda k: (abs(sum(d.full[k])), k)):
