@@ -182,6 +182,8 @@ class Specs:
         for line, around in self.flat_lines():
             it = self.HEAD.match(line)
             if line.startswith("--"):
+                # the heading of a part of the file is the sentence only where no other stands below it
+                above = [] if above and above[0].startswith("----") else above
                 above.append(line[2:].strip())
             elif not line.strip():
                 above, now = [], None
@@ -189,7 +191,7 @@ class Specs:
                 above = above if line.startswith("unfolding ") else []
             elif it and it["name"] not in found and (it["words"] or now is None or now.name != it["name"]):
                 kind = next((word for word in self.KINDS if word in it["words"].split()), "lemma")
-                now = found[it["name"]] = Definition(self, kind, it["name"], " ".join(above), f"{around}\n{line}")
+                now = found[it["name"]] = Definition(self, kind, it["name"], " ".join(above).removeprefix("---- "), f"{around}\n{line}")
                 above = []
             elif now:
                 now.text += f"\n{line}"

@@ -5,13 +5,15 @@ use Rattle.std.specs.Prelude.{nat_eq}
 use Rattle.lie_session.specs.State.{State, fresh, is_loaded, ended_status}
 use Rattle.lie_session.specs.Lines.{lines_of}
 use Rattle.lie_session.specs.Output.{rests, bytes_of, IsOutput, BeginsOutput}
-use Rattle.lie_session.specs.Runs.{Gave, GrewBy, IsRead, ReadAndWrote, TookAndWrote, WritesWholeLines, BeginsWholeLines, Cause, ReadCounts, WriteCounts, Completes, Complete, Exceeds, input_limit}
+use Rattle.lie_session.specs.Runs.{Gave, GrewBy, IsRead, ReadAndWrote, TookAndWrote, WritesWholeLines, BeginsWholeLines, Cause, DemoCause, CauseOf, ReadCounts, WriteCounts, Completes, Complete, DemoCompletes, CompleteOf, Exceeds, ExceedsOf, input_limit}
 use Rattle.lie_session.specs.Steps.{Replied, Progress, StopCounts, AnsweredAtEnd, Heard, HeardLast, Finished, Ran, stop_status}
 use Rattle.lie_session.specs.declared.mode.Mode.{Mode}
 use Rattle.lie_session.specs.declared.output.WriteStop.{WriteStop}
 use Rattle.lie_session.specs.declared.output.WriteStop.TheVariants.{Fault as WriteFailed, NoMemory as WriteMemory}
 use Rattle.lie_session.specs.declared.status.Status.{Status}
 use Rattle.lie_session.specs.declared.talk.Talk.{Talk}
+use Rattle.lie_session.specs.declared.task.Task.{Task}
+use Rattle.lie_session.specs.declared.task.Task.TheVariants.{Lines, Demo}
 use Rattle.lie_session.specs.declared.status.Status.TheVariants.{Done, Refused, Usage, LoadRefused, ReadFault, WriteFault, NoMemory, TooLong}
 use Rattle.lie_session.proofs.InputLemmas.{gave-more, one-byte, read-end}
 use Rattle.lie_session.proofs.LineLemmas.{lines-append}
@@ -125,7 +127,7 @@ completes mode told left' old new read read' write write' NoMemory fits r w rc w
 completes mode told left' old new read read' write write' TooLong fits r w rc wc h =
     let no : ⊥ = omega (arith, fits, h.3, length-append h.0 (h.1 ∷ []), longer told (h.0 ++ h.1 ∷ []) left' h.2) in absurd no
 
-pub complete_from : (mode : Mode) (left left' old new : Option (List ℕ)) (read read' write write' : ℕ) (status : Status) → ReadCounts read read' status → WriteCounts write write' status → Cause mode left left' old new status → Complete mode left old new read read' write write' status
+complete_from : (mode : Mode) (left left' old new : Option (List ℕ)) (read read' write write' : ℕ) (status : Status) → ReadCounts read read' status → WriteCounts write write' status → Cause mode left left' old new status → Complete mode left old new read read' write write' status
 complete_from mode None left' old new read read' write write' status rc wc cause = tt
 complete_from mode (Some told) left' old new read read' write write' status rc wc cause = λ fits r w. completes mode told left' old new read read' write write' status fits r w rc wc cause
 
@@ -143,9 +145,33 @@ exceeds mode told left' old new read read' WriteFault long r rc h = inr (inr ref
 exceeds mode told left' old new read read' NoMemory long r rc h = inr (inl refl)
 exceeds mode told left' old new read read' TooLong long r rc h = inl refl
 
-pub exceeds_from : (mode : Mode) (left left' old new : Option (List ℕ)) (read read' : ℕ) (status : Status) → ReadCounts read read' status → Cause mode left left' old new status → Exceeds left read read' status
+exceeds_from : (mode : Mode) (left left' old new : Option (List ℕ)) (read read' : ℕ) (status : Status) → ReadCounts read read' status → Cause mode left left' old new status → Exceeds left read read' status
 exceeds_from mode None left' old new read read' status rc cause = tt
 exceeds_from mode (Some told) left' old new read read' status rc cause = λ long r. exceeds mode told left' old new read read' status long r rc cause
+
+-- ---- the same of what the words ask for
+
+demo_completes : (n : ℕ) (old new : Option (List ℕ)) (write write' : ℕ) (status : Status) → ¬ Rose write write' → WriteCounts write write' status → DemoCause n old new status → DemoCompletes n old new status
+demo_completes n old new write write' Done w wc h = inl h
+demo_completes n old new write write' Refused w wc h = inl h
+demo_completes n old new write write' Usage w wc h = absurd h
+demo_completes n old new write write' LoadRefused w wc h = inl h
+demo_completes n old new write write' ReadFault w wc h = absurd h
+demo_completes n old new write write' WriteFault w wc h = absurd (w wc)
+demo_completes n old new write write' NoMemory w wc h = inr (refl, h)
+demo_completes n old new write write' TooLong w wc h = absurd h
+
+pub complete_of : (task : Option Task) (left left' old new : Option (List ℕ)) (read read' write write' : ℕ) (status : Status) → ReadCounts read read' status → WriteCounts write write' status
+    → CauseOf task left left' old new status → CompleteOf task left old new read read' write write' status
+complete_of None left left' old new read read' write write' status rc wc cause = tt
+complete_of (Some (Lines mode)) left left' old new read read' write write' status rc wc cause = complete_from mode left left' old new read read' write write' status rc wc cause
+complete_of (Some (Demo n)) left left' old new read read' write write' status rc wc cause = λ w. demo_completes n old new write write' status w wc cause.1
+
+pub exceeds_of : (task : Option Task) (left left' old new : Option (List ℕ)) (read read' : ℕ) (status : Status) → ReadCounts read read' status
+    → CauseOf task left left' old new status → ExceedsOf task left read read' status
+exceeds_of None left left' old new read read' status rc cause = tt
+exceeds_of (Some (Lines mode)) left left' old new read read' status rc cause = exceeds_from mode left left' old new read read' status rc cause
+exceeds_of (Some (Demo n)) left left' old new read read' status rc cause = tt
 
 -- ---- the end of a run, by what ended it
 

@@ -21,4 +21,6 @@ pub mod OneOutcome
 pub mod OneOutputLemmas
 pub mod ProgressLemmas
 pub mod CauseLemmas
+pub mod FirstLine
+pub mod DemoLemmas
 pub mod WorkedExamples

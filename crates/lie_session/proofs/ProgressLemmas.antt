@@ -76,13 +76,13 @@ replies-append mode s n (line ∷ lines) more replies others t last m h count on
     ]
 
 -- a session that rests has replied to whatever comes
-rested-append : (mode : Mode) (lines more : List (List ℕ)) (replies : List Reply) (t : State) → RepliesTo mode fresh 0 lines replies t → rests mode t ≡ true → RepliesTo mode fresh 0 (lines ++ more) replies t
+pub rested-append : (mode : Mode) (lines more : List (List ℕ)) (replies : List Reply) (t : State) → RepliesTo mode fresh 0 lines replies t → rests mode t ≡ true → RepliesTo mode fresh 0 (lines ++ more) replies t
 rested-append mode lines more replies t h over =
     subst (λ (z : List Reply). RepliesTo mode fresh 0 (lines ++ more) z t) (append-nil replies)
     (replies-append mode fresh 0 lines more replies [] t t (0 + length lines) h refl (quiet mode t (0 + length lines) more over))
 
 -- one more line, with its reply
-line-append : (mode : Mode) (lines : List (List ℕ)) (line : List ℕ) (replies : List Reply) (reply : Reply) (s next : State) (n : ℕ) → RepliesTo mode fresh 0 lines replies s → n ≡ length lines
+pub line-append : (mode : Mode) (lines : List (List ℕ)) (line : List ℕ) (replies : List Reply) (reply : Reply) (s next : State) (n : ℕ) → RepliesTo mode fresh 0 lines replies s → n ≡ length lines
     → rests mode s ≡ false → Replies s (n + 1) line reply next → RepliesTo mode fresh 0 (lines ++ line ∷ []) (replies ++ reply ∷ []) next
 line-append mode lines line replies reply s next n h count live replied =
     let from : n ≡ 0 + length lines = omega (arith, count) in

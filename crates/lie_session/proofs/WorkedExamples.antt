@@ -4,10 +4,11 @@ use Rattle.lie_field.specs.FiniteField.{FiniteField}
 use Rattle.lie_script.specs.declared.sizes.Wants.TheVariants as wants
 use Rattle.lie_session.specs.DatumLines.{DatumLines, opened, with_root, with_coroot, is_whole}
 use Rattle.lie_session.specs.Lines.{lines_of}
-use Rattle.lie_session.specs.Runs.{mode_of}
 use Rattle.lie_session.specs.State.{fresh, wants_of}
+use Rattle.lie_session.specs.Tasks.{task_of}
 use Rattle.lie_session.specs.declared.stage.Stage.TheVariants as stage
 use Rattle.lie_session.specs.declared.mode.Mode.TheVariants.{Check}
+use Rattle.lie_session.specs.declared.task.Task.TheVariants.{Lines}
 
 -- one CR is dropped, an empty line counts, and an LF at the end starts no line
 three_lines : lines_of (codes "load\r\n\nform 1\r\r\n") ≡ codes "load" ∷ [] ∷ codes "form 1\r" ∷ []
@@ -35,8 +36,11 @@ torus_whole : is_whole (opened 8 0) ≡ true
 torus_whole = refl
 
 -- the words of the command line
-asks_check : mode_of (codes "check" ∷ []) ≡ Some Check
+asks_check : task_of (codes "check" ∷ []) ≡ Some (Lines Check)
 asks_check = refl
 
-asks_nothing : mode_of (codes "run" ∷ codes "run" ∷ []) ≡ None
+leads_with_zero : task_of (codes "demo" ∷ codes "01" ∷ []) ≡ None
+leads_with_zero = refl
+
+asks_nothing : task_of (codes "run" ∷ codes "run" ∷ []) ≡ None
 asks_nothing = refl

@@ -14,9 +14,12 @@ pub mod Obeyed
 pub mod Steps
 pub mod Changes
 pub mod Output
+pub mod Tasks
+pub mod Summary
 pub mod Runs
 pub mod Loaded
 pub mod Printed
 pub mod Reduced
+pub mod Headline
 pub mod Covered
 pub mod OneOutput

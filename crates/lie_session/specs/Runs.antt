@@ -1,31 +1,25 @@
 -- What the program may answer.
--- Own: the words of the command line, the limit and the statuses.
+-- Own: the limit and the statuses.
 --
 --   left, left'    what the source told to come, at the call and at the return
 --   old, new       what the sink told as written, at the call and at the return
-use Rattle.std.specs.Prelude.{◌≡◌, ◌⊎◌, ℕ, ◌+◌, ◌<◌, ◌≤◌, if◌then◌else◌, List, [], ◌∷◌, ◌++◌, length, Option, Some, None, codes, bytes_eq}
+use Rattle.std.specs.Prelude.{◌≡◌, ◌⊎◌, ℕ, ◌+◌, ◌<◌, ◌≤◌, List, [], ◌∷◌, ◌++◌, length, Option, Some, None, ⊤}
 use Rattle.std.specs.Option.{IfSome}
 use Rattle.lie_kit.specs.Streams.{Rose, after_bytes, with_bytes, IsSpent}
 use Rattle.lie_session.specs.Lines.{lines_of, IsCutAtLastLf}
 use Rattle.lie_session.specs.Output.{RepliesTo, bytes_of, IsOutput, AreFirstReplies, BeginsOutput}
 use Rattle.lie_session.specs.State.{State, fresh}
+use Rattle.lie_session.specs.Summary.{IsSummary, BeginsSummary}
 use Rattle.lie_session.specs.declared.mode.Mode.{Mode}
-use Rattle.lie_session.specs.declared.mode.Mode.TheVariants.{Run, Check}
 use Rattle.lie_session.specs.declared.reply.Reply.{Reply}
 use Rattle.lie_session.specs.declared.status.Status.{Status}
 use Rattle.lie_session.specs.declared.status.Status.TheVariants.{Done, Refused, Usage, LoadRefused, ReadFault, WriteFault, NoMemory, TooLong}
+use Rattle.lie_session.specs.declared.task.Task.{Task}
+use Rattle.lie_session.specs.declared.task.Task.TheVariants.{Lines, Demo}
 
 -- the most bytes that are read
 abbrev pub input_limit : ℕ
 input_limit = 16777216
-
--- what the words of the command line ask for
-abbrev pub mode_of : List (List ℕ) → Option Mode
-mode_of (word ∷ []) =
-    if bytes_eq word (codes "run") then Some Run
-    else if bytes_eq word (codes "check") then Some Check
-    else None
-mode_of _ = None
 
 -- the source has given these bytes and no more
 abbrev pub Gave : Option (List ℕ) → List ℕ → Option (List ℕ) → Type 0
@@ -89,10 +83,23 @@ Cause mode left left' old new TooLong = PassedAndWrote left left' old new (Write
 Cause mode left left' old new WriteFault = StoppedWriting mode left left' old new
 Cause mode left left' old new NoMemory = StoppedWriting mode left left' old new
 
--- the same of words that ask for nothing: nothing is read or written
-abbrev pub CauseOf : Option Mode → (left left' old new : Option (List ℕ)) → Status → Type 0
+-- The cause of a status of a demonstration, by what was written: a summary, or a prefix of one where the sink fails; where memory runs out, nothing
+-- may be written, since there are no replies to sum up.
+abbrev pub DemoCause : ℕ → (old new : Option (List ℕ)) → Status → Type 0
+DemoCause n old new Done = GrewBy old new (λ out. IsSummary n out Done)
+DemoCause n old new Refused = GrewBy old new (λ out. IsSummary n out Refused)
+DemoCause n old new LoadRefused = GrewBy old new (λ out. IsSummary n out LoadRefused)
+DemoCause n old new Usage = ⊥
+DemoCause n old new ReadFault = ⊥
+DemoCause n old new TooLong = ⊥
+DemoCause n old new WriteFault = GrewBy old new (BeginsSummary n)
+DemoCause n old new NoMemory = (new ≡ old) ⊎ GrewBy old new (BeginsSummary n)
+
+-- The cause, by what the words ask for. Where they ask for nothing, nothing is read or written; for a demonstration nothing is read.
+abbrev pub CauseOf : Option Task → (left left' old new : Option (List ℕ)) → Status → Type 0
 CauseOf None left left' old new status = (status ≡ Usage) × (left' ≡ left) × (new ≡ old)
-CauseOf (Some mode) left left' old new status = Cause mode left left' old new status
+CauseOf (Some (Lines mode)) left left' old new status = Cause mode left left' old new status
+CauseOf (Some (Demo n)) left left' old new status = (left' ≡ left) × DemoCause n old new status
 
 -- the source's count of faults: it rose at a fault of reading, and stands at every other status
 abbrev pub ReadCounts : ℕ → ℕ → Status → Type 0
@@ -114,7 +121,23 @@ abbrev pub Complete : Mode → (left old new : Option (List ℕ)) (read read' wr
 Complete mode left old new read read' write write' status =
     IfSome left (λ input. length input ≤ input_limit → ¬ Rose read read' → ¬ Rose write write' → Completes mode input old new status)
 
+-- the summary of a demonstration was written whole, or memory ran out with nothing or a prefix of it written
+abbrev pub DemoCompletes : ℕ → (old new : Option (List ℕ)) → Status → Type 0
+DemoCompletes n old new status =
+    GrewBy old new (λ out. IsSummary n out status) ⊎ ((status ≡ NoMemory) × ((new ≡ old) ⊎ GrewBy old new (BeginsSummary n)))
+
+-- what the words ask for completes where nothing fails: a run where the source tells no more than the limit, a demonstration whatever the source tells
+abbrev pub CompleteOf : Option Task → (left old new : Option (List ℕ)) (read read' write write' : ℕ) → Status → Type 0
+CompleteOf None left old new read read' write write' status = ⊤
+CompleteOf (Some (Lines mode)) left old new read read' write write' status = Complete mode left old new read read' write write' status
+CompleteOf (Some (Demo n)) left old new read read' write write' status = ¬ Rose write write' → DemoCompletes n old new status
+
 -- where the source tells more than the limit and its count doesn't rise, the input is too long, unless writing or memory fails first
 abbrev pub Exceeds : Option (List ℕ) → (read read' : ℕ) → Status → Type 0
 Exceeds left read read' status =
     IfSome left (λ input. input_limit < length input → ¬ Rose read read' → (status ≡ TooLong) ⊎ (status ≡ NoMemory) ⊎ (status ≡ WriteFault))
+
+-- an input above the limit is too long for a run; of the input of a demonstration nothing is asked
+abbrev pub ExceedsOf : Option Task → (left : Option (List ℕ)) (read read' : ℕ) → Status → Type 0
+ExceedsOf (Some (Lines mode)) left read read' status = Exceeds left read read' status
+ExceedsOf _ left read read' status = ⊤

@@ -1,16 +1,16 @@
 -- What the steps of a run leave: reading, writing, and one reply.
 -- For proofs: no public clause cites it.
 -- Own.
-use Rattle.std.specs.Prelude.{◌≡◌, ◌≢◌, ◌⊎◌, ℕ, ◌+◌, ◌≤◌, false, List, ◌++◌, length, take, Option, Result, Ok, Err}
+use Rattle.std.specs.Prelude.{◌≡◌, ◌≢◌, ◌⊎◌, ℕ, ◌+◌, ◌≤◌, false, List, [], ◌∷◌, ◌++◌, length, take, Option, Result, Ok, Err}
 use Rattle.lie_kit.specs.Streams.{Rose, with_bytes}
-use Rattle.lie_session.specs.State.{State, fresh}
+use Rattle.lie_session.specs.State.{State, fresh, ended_status}
 use Rattle.lie_session.specs.Replies.{Replies, RepliesAtEnd}
 use Rattle.lie_script.specs.Lines.{kept_limit}
 use Rattle.lie_session.specs.Lines.{lines_of, IsCutAtLastLf}
-use Rattle.lie_session.specs.Output.{rests, RepliesTo, bytes_of, IsOutput, BeginsOutput}
-use Rattle.lie_session.specs.Runs.{Gave, GrewBy, BeginsWholeLines, Cause, ReadCounts, WriteCounts, input_limit}
+use Rattle.lie_session.specs.Output.{rests, RepliesTo, AreReplies, bytes_of, status_of, IsOutput, BeginsOutput}
+use Rattle.lie_session.specs.Runs.{Gave, GrewBy, BeginsWholeLines, Cause, DemoCause, ReadCounts, WriteCounts, input_limit}
 use Rattle.lie_session.specs.declared.mode.Mode.{Mode}
-use Rattle.lie_session.specs.declared.mode.Mode.TheVariants.{Check}
+use Rattle.lie_session.specs.declared.mode.Mode.TheVariants.{Run, Check}
 use Rattle.lie_session.specs.declared.reply.Reply.{Reply}
 use Rattle.lie_session.specs.declared.status.Status.{Status}
 use Rattle.lie_session.specs.declared.status.Status.TheVariants.{Done, Refused, Usage, LoadRefused, ReadFault, WriteFault, NoMemory, TooLong}
@@ -125,3 +125,23 @@ Turned mode taken talk talk' left left' now now' read read' write write' (Ok n) 
 Turned mode taken talk talk' left left' now now' read read' write write' (Err status) =
     (seen : List ℕ) (old : Option (List ℕ)) (first : Option (List ℕ)) → Progress mode seen talk old now → Gave first seen left → length seen ≡ taken
     → Ran mode first left' old now' read read' write write' status
+
+-- ---- the demonstration
+
+-- one more line has its reply, as far as the session goes
+abbrev pub RepliedLine : ℕ → List ℕ → (s next : State) → (before after : List Reply) → Type 0
+RepliedLine n line s next before after =
+    (seen : List (List ℕ)) → n ≡ length seen + 1 → RepliesTo Run fresh 0 seen before s → RepliesTo Run fresh 0 (seen ++ line ∷ []) after next
+
+-- all lines of the input have their replies, as far as the session goes, and after the last reply there is a status
+abbrev pub RepliedEnd : ℕ → (s next : State) → (before after : List Reply) → Type 0
+RepliedEnd n s next before after =
+    (input : List ℕ) → n ≡ length (lines_of input) → RepliesTo Run fresh 0 (lines_of input) before s
+    → AreReplies Run input after × (ended_status next ≡ status_of after)
+
+-- what a demonstration leaves: the cause of its status, and the counts of faults
+pub record Demonstrated (n : ℕ) (old new : Option (List ℕ)) (writes writes' : ℕ) (status : Status) : Type 0 where
+  pub asked : status ≢ Usage
+  pub cause : DemoCause n old new status
+  pub unread : (reads : ℕ) → ReadCounts reads reads status
+  pub written : WriteCounts writes writes' status

@@ -7,7 +7,8 @@
 //!   session, and the line that it awaits
 //! - `Outcomes.antt`, what a line leads to; `Asked.antt`, the words whose forms are asked for, and the answers to `same`;
 //!   `Faults.antt`, the words of the faults of calls
-//! - `Replies.antt`, the reply to a line; `Changes.antt`, what it changes; `Output.antt`, the replies to a script;
+//! - `Replies.antt`, the reply to a line; `Changes.antt`, what it changes; `Output.antt`, the replies to a script
+//! - `Tasks.antt`, what the words of the command line ask for; `Summary.antt`, the summary of a demonstration;
 //!   `Runs.antt`, the cause of each status
 //! - what the replies are worth: `Loaded.antt`, the loaded group and `matrix`; `Printed.antt`, forms and `same`;
 //!   `Reduced.antt`, `reduce` and its rows; `Covered.antt`, `cover`; `OneOutput.antt`, that a script has one output
@@ -20,6 +21,8 @@
 mod block;
 mod cutting;
 mod datum;
+mod demo;
+mod ending;
 mod faults;
 mod group;
 mod input;
@@ -34,9 +37,11 @@ mod stage;
 mod status;
 mod table;
 mod talk;
+mod task;
 
 pub use mode::Mode;
 pub use program::lie;
 pub use reply::{Kind, Reply};
 pub use session::Session;
 pub use status::Status;
+pub use task::Task;

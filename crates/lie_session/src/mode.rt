@@ -1,8 +1,6 @@
-//! What the command line asks for.
-ghost use Rattle.std.specs.Prelude.{◌≡◌, map};
-ghost use Rattle.std.specs.String.{string_bytes};
+//! How far the lines are replied to.
+ghost use Rattle.std.specs.Prelude.{◌≡◌};
 ghost use Rattle.lie_session.specs.Output.{rests};
-ghost use Rattle.lie_session.specs.Runs.{mode_of};
 
 use crate::session::Session;
 
@@ -13,17 +11,6 @@ pub enum Mode {
     Run,
     /// Up to and with `load`.
     Check,
-}
-
-/// What the words of the command line ask for.
-pub(crate) fn asked(words: &[String]) -> Option<Mode>
-    ensures { result ≡ mode_of (map string_bytes words.now) }
-{
-    match words {
-        [word] if word.as_bytes() == b"run".as_slice() => Some(Mode::Run),
-        [word] if word.as_bytes() == b"check".as_slice() => Some(Mode::Check),
-        _ => None,
-    }
 }
 
 impl Mode {

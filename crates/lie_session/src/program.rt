@@ -1,22 +1,25 @@
 //! The run of the program.
-ghost use Rattle.std.specs.Prelude.{◌≡◌, ◌≢◌, ◌+◌, ◌<◌, ◌≤◌, ◌^◌, ◌↔◌, false, [], map, Some, None, IfSome};
+ghost use Rattle.std.specs.Prelude.{◌≡◌, ◌≢◌, ◌+◌, ◌<◌, ◌≤◌, ◌^◌, ◌↔◌, false, [], map, Some, None};
 ghost use Rattle.std.specs.String.{string_bytes};
 ghost use Rattle.lie_session.specs.Output.{FieldsAreSized, DataAreLoaded};
 ghost use Rattle.lie_session.specs.OneOutput.{OneOutputUpToCollect, OneOutput};
-ghost use Rattle.lie_session.specs.Printed.{FormsAreJoined, EqualRepliesDecideWords, SameDecidesWords};
 ghost use Rattle.lie_session.specs.Loaded.{GroupsAreLoaded, MatricesAreProducts, JoinedWordsHaveOneMatrix};
-ghost use Rattle.lie_session.specs.Reduced.{BlocksAreCovering, MatricesAreReduced};
+ghost use Rattle.lie_session.specs.Headline.{Headline};
 ghost use Rattle.lie_session.specs.Covered.{CoverLinesAreKept};
-ghost use Rattle.lie_session.specs.Runs.{mode_of, input_limit, CauseOf, ReadCounts, WriteCounts, Complete, Exceeds};
-ghost use Rattle.lie_session.specs.Steps.{stop_status, AnsweredAtEnd, Finished, Turned, Ran};
-ghost use Rattle.lie_session.specs.State.{fresh, ended_status};
+ghost use Rattle.lie_session.specs.Runs.{input_limit, CauseOf, ReadCounts, WriteCounts, CompleteOf, ExceedsOf};
+ghost use Rattle.lie_session.specs.Steps.{AnsweredAtEnd, Finished, Turned, Ran};
+ghost use Rattle.lie_session.specs.State.{fresh};
+ghost use Rattle.lie_session.specs.Tasks.{task_of};
 
+use crate::demo::demonstrate;
+use crate::ending::{status, stopped};
 use crate::input::{LIMIT, PIECE, room};
-use crate::mode::{Mode, asked};
+use crate::mode::Mode;
 use crate::output::{WriteStop, write_all};
 use crate::session::Session;
 use crate::status::Status;
 use crate::talk::Talk;
+use crate::task::{Task, asked};
 use lie_kit::{Pull, Sink, Source};
 use std::alloc::Global;
 
@@ -33,30 +36,6 @@ fn reply_to_end<K: Sink>(
     match session.end(alloc, lines) {
         Ok(reply) => write_all(sink, reply.bytes.bytes()),
         Err(_) => Err(WriteStop::NoMemory),
-    }
-}
-
-/// The status after writing stopped.
-fn stopped(stop: WriteStop) -> Status
-    ensures { result ≡ stop_status stop }
-{
-    match stop {
-        WriteStop::Fault => Status::WriteFault,
-        WriteStop::NoMemory => Status::NoMemory,
-    }
-}
-
-/// The status after the last reply.
-fn status(session: &Session) -> Status
-    ensures { result ≡ ended_status session.now }
-{
-    if !session.loaded() {
-        return Status::LoadRefused;
-    }
-    if session.refusals() == 0 {
-        Status::Done
-    } else {
-        Status::Refused
     }
 }
 
@@ -139,54 +118,68 @@ fn run<S: Source, K: Sink>(alloc: Global, mode: Mode, source: &mut S, sink: &mut
     }
 }
 
+/// Does what the words of the command line ask for.
+fn answer<S: Source, K: Sink>(
+    alloc: Global,
+    words: &[String],
+    source: &mut S,
+    sink: &mut K,
+) -> Status
+    ensures usage { (result ≡ Status.Usage) ↔ (task_of (map string_bytes words.now) ≡ None) }
+    ensures cause { CauseOf (task_of (map string_bytes words.now)) (S.left source.old) (S.left source.new) (K.written sink.old) (K.written sink.new) result }
+    ensures read { ReadCounts (S.faults source.old) (S.faults source.new) result }
+    ensures written { WriteCounts (K.faults sink.old) (K.faults sink.new) result }
+    ensures checked { task_of (map string_bytes words.now) ≡ Some (Task.Lines Mode.Check) → result ≢ Status.Refused }
+{
+    match asked(words) {
+        Some(Task::Lines(mode)) => run(alloc, mode, source, sink),
+        Some(Task::Demo(n)) => demonstrate(alloc, n, sink),
+        None => Status::Usage,
+    }
+}
+
 /// Runs the program: with the word `run`, the lines of the source are replied to in order, up to and
 /// with the first fatal reply; with the word `check`, up to and with the reply to `load`, and later
-/// lines are read to the end and not looked at. Each line is replied to as soon as it is whole. The words are those of the command line without the
-/// program's name. Want of memory comes whenever the allocator or the sink says so; no clause says when.
+/// lines are read to the end and not looked at. Each line is replied to as soon as it is whole. With the
+/// words `demo n` the lines of a generated script are replied to, and one line sums the replies up. The
+/// words are those of the command line without the program's name. Want of memory comes whenever the
+/// allocator or the sink says so; no clause says when.
 pub fn lie<S: Source, K: Sink>(
     alloc: Global,
     words: &[String],
     source: &mut S,
     sink: &mut K,
 ) -> Status
-    ensures usage { (result ≡ Status.Usage) ↔ (mode_of (map string_bytes words.now) ≡ None) }
-    ensures cause { CauseOf (mode_of (map string_bytes words.now)) (S.left source.old) (S.left source.new) (K.written sink.old) (K.written sink.new) result }
+    ensures usage { (result ≡ Status.Usage) ↔ (task_of (map string_bytes words.now) ≡ None) }
+    ensures cause { CauseOf (task_of (map string_bytes words.now)) (S.left source.old) (S.left source.new) (K.written sink.old) (K.written sink.new) result }
     ensures read { ReadCounts (S.faults source.old) (S.faults source.new) result }
     ensures written { WriteCounts (K.faults sink.old) (K.faults sink.new) result }
-    ensures checked { mode_of (map string_bytes words.now) ≡ Some Mode.Check → result ≢ Status.Refused }
+    ensures checked { task_of (map string_bytes words.now) ≡ Some (Task.Lines Mode.Check) → result ≢ Status.Refused }
 
     // Where nothing fails, the output is written whole, unless the input is too long.
-    ensures complete { IfSome (mode_of (map string_bytes words.now)) (λ mode. Complete mode (S.left source.old) (K.written sink.old) (K.written sink.new) (S.faults source.old) (S.faults source.new) (K.faults sink.old) (K.faults sink.new) result) }
-    ensures exceeds { IfSome (mode_of (map string_bytes words.now)) (λ mode. Exceeds (S.left source.old) (S.faults source.old) (S.faults source.new) result) }
+    ensures complete { CompleteOf (task_of (map string_bytes words.now)) (S.left source.old) (K.written sink.old) (K.written sink.new) (S.faults source.old) (S.faults source.new) (K.faults sink.old) (K.faults sink.new) result }
+    ensures exceeds { ExceedsOf (task_of (map string_bytes words.now)) (S.left source.old) (S.faults source.old) (S.faults source.new) result }
 
-    // What the replies are worth: there is one output, but for the forms that `collect` prints; each word prints a form
-    // that is joined to it; and two words print the same bytes exactly if they are joined.
+    // The headline: each word prints a form that is joined to it, and two words print the same bytes exactly if they are
+    // joined; on a covering module a matrix is reduced to the form of each word that has it, or is refused where none has.
+    ensures headline { Headline }
+
+    // There is one output, but for the forms that `collect` prints.
     ensures one { OneOutput }
     ensures collected { OneOutputUpToCollect }
-    ensures forms { FormsAreJoined }
-    ensures words { EqualRepliesDecideWords }
-    ensures same { SameDecidesWords }
+
+    // What the lines have brought: a field within its limits and a root datum that meets its demands; a loaded group is one,
+    // with a carrier that is audited and covering; its named modules are built from it and audited; the reply to `matrix` has
+    // the rows of the product of the matrices of the letters on such a module, and joined words have the same rows.
     ensures sized { FieldsAreSized }
     ensures sound { DataAreLoaded }
-
-    // What the lines have brought: a loaded group is one, with a carrier that is audited and covering; its named modules are
-    // built from it and audited; the reply to `matrix` has the rows of the product of the matrices of the letters on such a
-    // module, and joined words have the same rows.
     ensures loaded { GroupsAreLoaded }
     ensures matrices { MatricesAreProducts }
     ensures joined_matrices { JoinedWordsHaveOneMatrix }
-
-    // `reduce` begins a block on a covering module, and at the last row the matrix is reduced: the reply is the text of the form of each word
-    // that has the matrix, or it is the refusal `outside`, where no word has it.
-    ensures blocks { BlocksAreCovering }
-    ensures reductions { MatricesAreReduced }
 
     // `cover` keeps a line for an axis exactly where its combination of the weights is the unit vector of the axis, and else names the first
     // coordinate that differs.
     ensures cover_lines { CoverLinesAreKept }
 {
-    match asked(words) {
-        Some(mode) => run(alloc, mode, source, sink),
-        None => Status::Usage,
-    }
+    answer(alloc, words, source, sink)
 }

@@ -3,7 +3,7 @@
 /// The statuses of a run, numbered from 0 in this order. `specs/Runs.antt` says when each one comes.
 #[derive(Clone, Copy, Debug, Drop, PartialEq, Eq)]
 pub enum Status {
-    /// The input was read to its end, and every line was accepted.
+    /// The input was read to its end, or the summary of a demonstration was written, and every line was accepted.
     Done,
     /// A line after `load` was refused.
     Refused,

@@ -1,35 +1,67 @@
 //! A case: what the program is run with.
-ghost use Rattle.std.specs.Prelude.{◌≤◌, IfOk};
+ghost use Rattle.std.specs.Prelude.{◌≤◌, IfOk, IfSome};
 
 use crate::script::{Script, push_script_line};
 use crate::spelling::push_spelled;
 use anyhow::{Context, Error, bail, ensure};
 use std::alloc::Global;
 
-/// The words of the command line, the input with the most bytes that come at a pull, and the numbers, counted
-/// from 1, of the pulls that fail, of the pushes that fail, and of the pushes that find no memory.
+/// What a line of a case may set, beside the lines of its script.
+#[derive(Clone, Copy, Debug, PartialEq, Eq, Drop)]
+enum Setting {
+    Words,
+    PullPiece,
+    PushPiece,
+    Pulls,
+    Pushes,
+    Wants,
+}
+
+impl Setting {
+    /// What the line of this key sets, where `rest` stands behind the key.
+    fn read(key: &str, rest: &str) -> Option<Setting> {
+        match key {
+            "words" => Some(Setting::Words),
+            "pieces" => Some(Setting::PullPiece),
+            "pulls" => Some(Setting::Pulls),
+            "pushes" if rest.starts_with("of") => Some(Setting::PushPiece),
+            "pushes" if rest.ends_with(" fail") => Some(Setting::Pushes),
+            "pushes" => Some(Setting::Wants),
+            _ => None,
+        }
+    }
+}
+
+/// The words of the command line, the input with the most bytes that come at a pull, the most bytes that a push
+/// takes, where there is such a number, and the numbers, counted from 1, of the pulls that fail, of the pushes
+/// that fail, and of the pushes that find no memory.
 #[derive(Drop)]
 pub struct Case {
     pub words: Vec<String>,
     pub input: Vec<u8>,
-    pub piece: usize,
+    pub pull_piece: usize,
+    pub push_piece: Option<usize>,
     pub pulls: Vec<u64>,
     pub pushes: Vec<u64>,
     pub wants: Vec<u64>,
-    ghost some: { 1 ≤ piece },
+    said: Vec<Setting>,
+    ghost pulled: { 1 ≤ pull_piece },
+    ghost pushed: { IfSome push_piece (λ piece. 1 ≤ piece) },
 }
 
 impl Case {
-    /// The case of these lines. Where they say nothing else, the word is `run`, pieces are of 65,536 bytes, and
-    /// no call fails.
+    /// The case of these lines. Where they say nothing else, the word is `run`, pieces are of 65,536 bytes, a push
+    /// takes all that it is given, and no call fails.
     pub fn read(alloc: Global, scripts: &[Script], lines: &[String]) -> Result<Case, Error> {
         let mut case = Case {
             words: words(alloc, "run")?,
             input: Vec::new(alloc),
-            piece: 65_536,
+            pull_piece: 65_536,
+            push_piece: None,
             pulls: Vec::new(alloc),
             pushes: Vec::new(alloc),
             wants: Vec::new(alloc),
+            said: Vec::new(alloc),
         };
         for line in lines {
             case.take_line(alloc, scripts, line.as_str())?;
@@ -43,13 +75,26 @@ impl Case {
             return Ok(());
         }
         let (key, rest) = line.split_once(' ').unwrap_or((line, ""));
-        match key {
-            "words" => self.words = words(alloc, rest)?,
-            "pieces" => self.piece = piece(rest)?,
-            "pulls" => self.pulls = calls(alloc, rest, " fail")?,
-            "pushes" if rest.ends_with(" fail") => self.pushes = calls(alloc, rest, " fail")?,
-            "pushes" => self.wants = calls(alloc, rest, " find no memory")?,
-            _ => bail!("no line of a case begins so: {line}"),
+        let Some(setting) = Setting::read(key, rest) else {
+            bail!("no line of a case begins so: {line}");
+        };
+        ensure!(
+            !self.said.contains(&setting),
+            "a line before says this: {line}"
+        );
+        self.said.push(setting)?;
+        self.set(alloc, setting, rest)
+    }
+
+    /// Sets what the rest of a line says.
+    fn set(&mut self, alloc: Global, setting: Setting, rest: &str) -> Result<(), Error> {
+        match setting {
+            Setting::Words => self.words = words(alloc, rest)?,
+            Setting::PullPiece => self.pull_piece = piece(rest)?,
+            Setting::PushPiece => self.push_piece = Some(piece(rest)?),
+            Setting::Pulls => self.pulls = calls(alloc, rest, " fail")?,
+            Setting::Pushes => self.pushes = calls(alloc, rest, " fail")?,
+            Setting::Wants => self.wants = calls(alloc, rest, " find no memory")?,
         }
         Ok(())
     }
@@ -66,13 +111,11 @@ fn words(alloc: Global, text: &str) -> Result<Vec<String>, Error> {
     Ok(words)
 }
 
-/// The most bytes that come at a pull.
+/// The most bytes that come at a pull, or that a push takes.
 fn piece(text: &str) -> Result<usize, Error>
     ensures { IfOk result (λ piece. 1 ≤ piece) }
 {
-    let text = text
-        .strip_prefix("of ")
-        .context("pieces of how many bytes")?;
+    let text = text.strip_prefix("of ").context("of how many bytes")?;
     let piece = text.parse::<usize>().context("how many bytes a piece has")?;
     ensure!(piece >= 1, "a piece has bytes");
     Ok(piece)

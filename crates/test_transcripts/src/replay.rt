@@ -8,8 +8,12 @@ use std::alloc::Global;
 
 /// The status of a case, and the sink that has its output.
 pub fn replay(alloc: Global, case: Case) -> (Status, CaseSink) {
-    let mut source = MemSource::new(case.input, case.piece, case.pulls);
-    let mut sink = CaseSink::new(MemSink::new(alloc, case.pushes), case.wants);
+    let mut source = MemSource::new(case.input, case.pull_piece, case.pulls);
+    let memory = match case.push_piece {
+        Some(piece) => MemSink::pieces(alloc, piece, case.pushes),
+        None => MemSink::new(alloc, case.pushes),
+    };
+    let mut sink = CaseSink::new(memory, case.wants);
     let status = run(alloc, &case.words, &mut source, &mut sink);
     (status, sink)
 }

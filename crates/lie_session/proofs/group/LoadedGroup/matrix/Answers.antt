@@ -1,4 +1,4 @@
-use Rattle.std.proofs.Common.{◌≡◌, ℕ, sym, ap, ◌∙◌, subst}
+use Rattle.std.proofs.Common.{ℕ, sym, ap, ◌∙◌, subst}
 use Rattle.std.specs.Option.{option_copied}
 use Rattle.lie_audit.specs.WordMatrix.{IsWordFor, word_matrix}
 use Rattle.lie_const.specs.Modules.{Module, IsModule}

@@ -1,4 +1,4 @@
-use Rattle.std.proofs.Common.{rules, ◌≡◌, Ok, Some, refl, sym, subst}
+use Rattle.std.proofs.Common.{rules, Ok, Some, refl, sym, subst}
 use Rattle.lie_audit.specs.WordMatrix.{IsWordFor}
 use Rattle.lie_datum.specs.RootList.{IsLoaded}
 use Rattle.lie_letters.specs.SignedFrames.{SignedFrame}

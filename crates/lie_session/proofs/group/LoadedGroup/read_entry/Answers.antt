@@ -4,7 +4,6 @@ use Rattle.lie_session.specs.Held.{LoadedGroup, AreTableLines, without_block}
 use Rattle.lie_session.specs.Named.{named_of}
 use Rattle.lie_session.specs.Outcomes.{ReadsTable, ReadsEntry}
 use Rattle.lie_session.specs.State.{block_wants, block_dim}
-use Rattle.lie_session.specs.declared.block.Block.TheVariants as block
 use Rattle.lie_script.specs.declared.sizes.Wants.TheVariants as wants
 use Rattle.lie_weight.specs.Tables.{IsEntry}
 use Rattle.lie_session.proofs.BlockLemmas.{answered_without}
