@@ -1,5 +1,5 @@
 //! A case: what the program is run with.
-ghost use Rattle.std.specs.Prelude.{◌≤◌, IfOk, IfSome};
+ghost use Rattle.std.specs.Prelude.{◌≤◌, IfOk};
 
 use crate::script::{Script, push_script_line};
 use crate::spelling::push_spelled;
@@ -33,20 +33,20 @@ impl Setting {
 }
 
 /// The words of the command line, the input with the most bytes that come at a pull, the most bytes that a push
-/// takes, where there is such a number, and the numbers, counted from 1, of the pulls that fail, of the pushes
-/// that fail, and of the pushes that find no memory.
+/// takes, and the numbers, counted from 1, of the pulls that fail, of the pushes that fail, and of the pushes that
+/// find no memory.
 #[derive(Drop)]
 pub struct Case {
     pub words: Vec<String>,
     pub input: Vec<u8>,
     pub pull_piece: usize,
-    pub push_piece: Option<usize>,
+    pub push_piece: usize,
     pub pulls: Vec<u64>,
     pub pushes: Vec<u64>,
     pub wants: Vec<u64>,
     said: Vec<Setting>,
     ghost pulled: { 1 ≤ pull_piece },
-    ghost pushed: { IfSome push_piece (λ piece. 1 ≤ piece) },
+    ghost pushed: { 1 ≤ push_piece },
 }
 
 impl Case {
@@ -57,7 +57,7 @@ impl Case {
             words: words(alloc, "run")?,
             input: Vec::new(alloc),
             pull_piece: 65_536,
-            push_piece: None,
+            push_piece: usize::MAX,
             pulls: Vec::new(alloc),
             pushes: Vec::new(alloc),
             wants: Vec::new(alloc),
@@ -91,7 +91,7 @@ impl Case {
         match setting {
             Setting::Words => self.words = words(alloc, rest)?,
             Setting::PullPiece => self.pull_piece = piece(rest)?,
-            Setting::PushPiece => self.push_piece = Some(piece(rest)?),
+            Setting::PushPiece => self.push_piece = piece(rest)?,
             Setting::Pulls => self.pulls = calls(alloc, rest, " fail")?,
             Setting::Pushes => self.pushes = calls(alloc, rest, " fail")?,
             Setting::Wants => self.wants = calls(alloc, rest, " find no memory")?,

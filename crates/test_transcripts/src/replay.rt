@@ -9,10 +9,7 @@ use std::alloc::Global;
 /// The status of a case, and the sink that has its output.
 pub fn replay(alloc: Global, case: Case) -> (Status, CaseSink) {
     let mut source = MemSource::new(case.input, case.pull_piece, case.pulls);
-    let memory = match case.push_piece {
-        Some(piece) => MemSink::pieces(alloc, piece, case.pushes),
-        None => MemSink::new(alloc, case.pushes),
-    };
+    let memory = MemSink::pieces(alloc, case.push_piece, case.pushes);
     let mut sink = CaseSink::new(memory, case.wants);
     let status = run(alloc, &case.words, &mut source, &mut sink);
     (status, sink)
