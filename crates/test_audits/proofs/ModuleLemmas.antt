@@ -1,14 +1,17 @@
 -- What is known of modules and signs that were made.
-use Rattle.std.proofs.Common.{◌≡◌, ℕ, zero, suc, ◌*◌, ℤ, pos, negsuc, length, Ok, Err, Result, IfOk, ap, ◌∙◌, arith}
+use Rattle.std.proofs.Common.{◌≡◌, ℕ, ◌+◌, ◌-◌, List, [], get_or, Ok, Err, Result, IfOk, unsigned_abs, inl, inr, sym, ap, subst, ◌∙◌, arith}
+use Rattle.std.specs.List.{All}
+use Rattle.std.proofs.lemmas.Bool.{cases_lt}
+use Rattle.std.proofs.lemmas.List.{get_or_default}
 use Rattle.lie_datum.specs.Vectors.{Vector}
-use Rattle.lie_datum.specs.RootList.{RootDatum, IsLoaded, IsNumber}
-use Rattle.lie_datum.proofs.NumberLemmas.{within, some_within, place_within}
-use Rattle.lie_datum.proofs.SignedRoots.{opposite_number}
+use Rattle.lie_datum.specs.RootDatum.{IsWithin}
+use Rattle.lie_datum.specs.RootList.{RootDatum, IsLoaded}
 use Rattle.lie_const.specs.Adjoint.{IsAdjoint, IsAdjointOf}
 use Rattle.lie_const.specs.ConstantTables.{ConstantTable, value_of, LoadsConstants}
 use Rattle.lie_const.specs.Modules.{Module, IsModule}
 use Rattle.lie_const.specs.Signs.{Signs, SignTable, IsSignTable}
-use Rattle.lie_weight.specs.OrbitFaults.{LoadsOrbit}
+use Rattle.lie_weight.specs.OrbitFaults.{LoadsOrbit, IsHeavyWeight, IsHeavyAt}
+use Rattle.lie_weight.specs.Tensors.{LoadsTensor}
 use Rattle.lie_weight.specs.declared.faults.ModuleFault.{ModuleFault}
 use Rattle.lie_audit.specs.SignAnswers.{AreTestedSigns}
 use Rattle.lie_identities.specs.Audit.{HasLightWeights}
@@ -35,23 +38,27 @@ pub orbit_light : (d : RootDatum) (eta : Signs) (w : Vector) (r : Result Module 
 orbit_light d eta w (Ok v) loads = (orbit_is_light d eta w v loads).1
 orbit_light d eta w (Err e) loads = tt
 
+-- a vector that is not heavy
+light_weight : (x : Vector) → ¬ IsHeavyWeight x → IsWithin 1000000 x
+light_weight x h k z l = elim (cases_lt 1000000 (unsigned_abs (get_or x k z))) [
+  | inl heavy ↦ absurd (h (k, get_or x k z, l, sym (get_or_default x k z (get_or x k z) l), heavy))
+  | inr light ↦ light
+]
+
+-- where no weight is heavy, all are light
+light_weights : (ws : List Vector) → ((a : ℕ) → ¬ IsHeavyAt ws a) → All (IsWithin 1000000) ws
+light_weights ws light k z l =
+    light_weight (get_or ws k z) (λ heavy. light (k + 1) (omega arith, omega (arith, l), subst IsHeavyWeight (get_or_default ws k z [] l ∙ ap (λ i. get_or ws i []) (let e : k ≡ k + 1 - 1 = omega arith in e)) heavy))
+
+-- a tensor product
+pub tensor_shape : (d : RootDatum) (v w : Module) (r : Result Module ModuleFault) → LoadsTensor d v w r → IfOk r (IsModule d)
+tensor_shape d v w (Ok s) loads = loads.0.shape
+tensor_shape d v w (Err e) loads = tt
+
+pub tensor_light : (d : RootDatum) (v w : Module) (r : Result Module ModuleFault) → LoadsTensor d v w r → IfOk r HasLightWeights
+tensor_light d v w (Ok s) loads = light_weights s.weights loads.2
+tensor_light d v w (Err e) loads = tt
+
 -- signs that are read off are a table of signs
 pub tested_table : (d : RootDatum) (v : Module) (t : SignTable) → AreTestedSigns d v t → IsSignTable d t
 tested_table d v t tested = tested.table
-
--- a number of a root is one for each datum with as many roots
-number : (d e : RootDatum) → length d.positive ≡ length e.positive → (r : ℤ) → IsNumber e r → IsNumber d r
-number d e same (pos zero) n = cc
-number d e same (pos (suc j)) n = let w = within e.positive j n in some_within d.positive j (omega (arith, same, w))
-number d e same (negsuc j) n =
-    let w = (place_within e (negsuc j) n).1 in
-    (opposite_number d (pos (suc j)) (some_within d.positive j (omega (arith, same, w)))).0
-
--- so a module of a datum is one of it
-pub same_shape : (d e : RootDatum) (v : Module) → length d.positive ≡ length e.positive → IsModule d v → IsModule e v
-same_shape d e v same m = record {
-  positive = m.positive ∙ same;
-  roots = m.roots ∙ ap (λ n. 2 * n) same;
-  square = λ r k n. m.square r k (number d e same r n);
-  last = λ r k n. m.last r k (number d e same r n);
-}

@@ -60,7 +60,7 @@ pub(crate) fn audited_adjoint(
 }
 
 /// `audit` with one clause of its answer.
-fn audited(
+pub(crate) fn audited(
     alloc: Global,
     datum: &Datum,
     consts: &Constants,
@@ -77,7 +77,7 @@ fn audited(
 }
 
 /// The signs of a list of them.
-fn signs(alloc: Global, datum: &Datum, table: &[i8]) -> Result<Signs, Stop>
+pub(crate) fn signs(alloc: Global, datum: &Datum, table: &[i8]) -> Result<Signs, Stop>
     ensures { IfOk result (IsSignTable datum.now) }
 {
     let Some(count) = datum.l().checked_mul(2 * datum.m()) else {

@@ -1,10 +1,11 @@
 //! The question of a row, by its words.
 
 use crate::audits::{audited_adjoint, audited_orbit};
-use crate::texts::write;
+use crate::tables::audited_table;
+use crate::texts::{write, write_no_module};
 use lie_datum::Datum;
 use std::alloc::{AllocError, Global};
-use test_rows::{Answer, Stop, read_lists, roots_of_row, row};
+use test_rows::{Answer, Stop, index, read_lists, roots_of_row, row};
 
 /// What the rows before have said.
 #[derive(Clone, Copy, Drop)]
@@ -13,6 +14,7 @@ pub(crate) struct Said<'a> {
     made_with: &'a str,
     datum: &'a str,
     signs: &'a str,
+    weights: &'a str,
     field: &'a str,
 }
 
@@ -24,6 +26,7 @@ pub(crate) fn answers(alloc: Global, lines: &[String]) -> Result<Vec<String>, Al
         made_with: "",
         datum: "",
         signs: "",
+        weights: "",
         field: "",
     };
     for line in lines {
@@ -32,6 +35,7 @@ pub(crate) fn answers(alloc: Global, lines: &[String]) -> Result<Vec<String>, Al
             made_with: newest(line, "made with", said.made_with),
             datum: newest(line, "datum", said.datum),
             signs: newest(line, "signs", said.signs),
+            weights: newest(line, "weights", said.weights),
             field: newest(line, "field", said.field),
         };
         answers.push(with_answer(alloc, said, line)?)?;
@@ -69,6 +73,8 @@ fn answered(alloc: Global, said: Said, line: &str) -> Result<String, Stop> {
             &mut answer,
         )?,
         "orbit" => about_orbit(alloc, said, text, &mut answer)?,
+        "table" => about_table(alloc, said, text, 1, &mut answer)?,
+        "power" => about_power(alloc, said, text, &mut answer)?,
         _ => return Ok(String::new(alloc)),
     }
     Ok(answer.text())
@@ -145,6 +151,45 @@ fn audited_with(
     let signs = signs_of(alloc, said.signs)?;
     let found = audited_orbit(alloc, source, made_with, target, &signs, v)?;
     write(alloc, &found, target, said.field, answer)
+}
+
+/// Audits a power of the module of a table: before the entries stands the number of factors.
+fn about_power(alloc: Global, said: Said, text: &str, answer: &mut Answer) -> Result<(), Stop> {
+    let Some((count, entries)) = text.split_once('|') else {
+        return Err(Stop::NoQuestion);
+    };
+    let count = index(count.trim().parse::<i128>()?)?;
+    about_table(alloc, said, entries, count, answer)
+}
+
+/// Audits so many factors of the module of a table for the datum of the last row `datum`.
+fn about_table(
+    alloc: Global,
+    said: Said,
+    text: &str,
+    count: usize,
+    answer: &mut Answer,
+) -> Result<(), Stop> {
+    let target = roots_of_row(alloc, said.datum)?;
+    table_for(alloc, &target.datum, said, text, count, answer)
+}
+
+/// Audits so many factors of the module of a table for this datum, with the weights and the signs of the last rows.
+fn table_for(
+    alloc: Global,
+    target: &Datum,
+    said: Said,
+    text: &str,
+    count: usize,
+    answer: &mut Answer,
+) -> Result<(), Stop> {
+    let signs = signs_of(alloc, said.signs)?;
+    let weights = read_lists(alloc, said.weights, "|")?;
+    let entries = read_lists(alloc, text, "|")?;
+    match audited_table(alloc, target, &signs, &weights, &entries, count)? {
+        Ok(found) => write(alloc, &found, target, said.field, answer),
+        Err(fault) => write_no_module(&fault, answer),
+    }
 }
 
 /// The signs of a row: 1 and -1.

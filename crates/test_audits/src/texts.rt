@@ -5,6 +5,7 @@ ghost use Rattle.std.specs.Prelude.{◌≡◌, IfOk};
 use lie_datum::Datum;
 use lie_field::Field;
 use lie_identities::{AuditFault, Audited, CoverFault, Rel};
+use lie_weight::ModuleFault;
 use std::alloc::Global;
 use test_rows::{Answer, Stop, field_of_row};
 
@@ -95,6 +96,26 @@ fn write_fault(fault: &AuditFault, answer: &mut Answer) -> Result<(), Stop> {
             answer.next(&[i128::from(*et), i128::from(*eu)])?;
             Ok(answer.next(&[*left, *right])?)
         }
+    }
+}
+
+/// Writes why a table gives no module.
+pub(crate) fn write_no_module(fault: &ModuleFault, answer: &mut Answer) -> Result<(), Stop> {
+    match fault {
+        ModuleFault::Table(n) => {
+            answer.word("table")?;
+            Ok(answer.number(*n as i128)?)
+        }
+        ModuleFault::Heavy(a) => {
+            answer.word("heavy")?;
+            Ok(answer.number(*a as i128)?)
+        }
+        ModuleFault::Huge(r, k) => {
+            answer.word("huge")?;
+            Ok(answer.list(&[i128::from(r.number()), i128::from(*k)])?)
+        }
+        ModuleFault::NoMemory => Err(Stop::NoMemory),
+        _ => Err(Stop::NoQuestion),
     }
 }
 

@@ -1,4 +1,3 @@
-use Rattle.test_audits.proofs.ModuleLemmas.{same_shape}
 use Rattle.test_audits.proofs.audits.moved.Goals as goal
 
 pub orbit-requires : goal.orbit-requires
