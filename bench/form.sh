@@ -1,51 +1,37 @@
 #!/bin/sh
-# Times `form` lines of words of 40 letters of all kinds, through the built program, and the longest word over E8(2); and the product of
-# two forms of random elements.
+# Measures `form` lines of words of 40 letters of all kinds, through the built program, and the longest word over E8(2); the matrices of such words over
+# G2(5) on the module of dimension 7; and the product of two forms of random elements.
 #
 #   sh bench/form.sh                    the program alone
-#   GAP=gap sh bench/form.sh            with GAP's products beside it, where it is installed: of two full elements (collection.sh), and
-#                                       of two matrices of the dimension of the least module (products.g)
+#   GAP=gap sh bench/form.sh            with GAP 4.12 (the Debian package `gap-core`) beside it, where it is installed: matrices of words over G2(5), and
+#                                       products of two matrices of the dimension of the least module
+#   sh bench/form.sh G2 F4              the words of these groups alone, without the products
 #
-# A figure is the user time of the lines, less that of as many `form 1`; the least of three runs each. That of a product is the time of
-# `mul w ; v` less those of `form w` and `form v`, which the program makes first.
+# A figure is that of the lines less that of as many with the word 1. That of a product is that of `mul w ; v` less those of `form w` and `form v`, which
+# the program makes first.
 set -eu
 here=$(cd "$(dirname "$0")" && pwd)
 top=$(dirname "$here")
-rooms=$(mktemp -d)
-trap 'rm -rf "$rooms"' EXIT
+. "$here/program.sh"
 . "$here/data.sh"
 
-# the data of the products: name, prime, generator, positive roots, lines, and the rows of the Cartan matrix
+# the data of the products: name, prime, generator, positive roots, lines, the dimension of the least module, and the rows of the Cartan matrix
 product_types='
-A1 5 2 1 40000 2
-A3 5 2 6 10000 2,-1,0 -1,2,-1 0,-1,2
-G2 5 2 6 10000 2,-1 -3,2
-F4 5 2 24 2000 2,-1,0,0 -1,2,-2,0 0,-1,2,-1 0,0,-1,2
-E6 5 2 36 1000 2,0,-1,0,0,0 0,2,0,-1,0,0 -1,0,2,-1,0,0 0,-1,-1,2,-1,0 0,0,0,-1,2,-1 0,0,0,0,-1,2
-E7 2 1 63 500 2,0,-1,0,0,0,0 0,2,0,-1,0,0,0 -1,0,2,-1,0,0,0 0,-1,-1,2,-1,0,0 0,0,0,-1,2,-1,0 0,0,0,0,-1,2,-1 0,0,0,0,0,-1,2
-E8 2 1 120 200 2,0,-1,0,0,0,0,0 0,2,0,-1,0,0,0,0 -1,0,2,-1,0,0,0,0 0,-1,-1,2,-1,0,0,0 0,0,0,-1,2,-1,0,0 0,0,0,0,-1,2,-1,0 0,0,0,0,0,-1,2,-1 0,0,0,0,0,0,-1,2
+A1 5 2 1 20000 2 2
+A3 5 2 6 10000 4 2,-1,0 -1,2,-1 0,-1,2
+G2 5 2 6 10000 7 2,-1 -3,2
+F4 5 2 24 2000 26 2,-1,0,0 -1,2,-2,0 0,-1,2,-1 0,0,-1,2
+E6 5 2 36 1000 27 2,0,-1,0,0,0 0,2,0,-1,0,0 -1,0,2,-1,0,0 0,-1,-1,2,-1,0 0,0,0,-1,2,-1 0,0,0,0,-1,2
+E7 2 1 63 500 56 2,0,-1,0,0,0,0 0,2,0,-1,0,0,0 -1,0,2,-1,0,0,0 0,-1,-1,2,-1,0,0 0,0,0,-1,2,-1,0 0,0,0,0,-1,2,-1 0,0,0,0,0,-1,2
+E8 2 1 120 200 248 2,0,-1,0,0,0,0,0 0,2,0,-1,0,0,0,0 -1,0,2,-1,0,0,0,0 0,-1,-1,2,-1,0,0,0 0,0,0,-1,2,-1,0,0 0,0,0,0,-1,2,-1,0 0,0,0,0,0,-1,2,-1 0,0,0,0,0,0,-1,2
 '
 
-# `form` lines of so many letters each: a root element of any root, a Weyl representative or its inverse, or a torus element
-words() {
-    awk -v roots="$1" -v prime="$2" -v rank="$3" -v lines="$4" -v letters="$5" 'BEGIN {
-        srand(11)
-        for (n = 0; n < lines; n++) {
-            line = "form"
-            for (k = 1; k <= letters; k++) {
-                kind = int(3 * rand())
-                if (kind == 0) letter = sprintf("x%s%d(%d)", rand() < 0.5 ? "-" : "", 1 + int(roots * rand()), 1 + int((prime - 1) * rand()))
-                else if (kind == 1) letter = sprintf("n%d%s", 1 + int(rank * rand()), rand() < 0.5 ? "\047" : "")
-                else {
-                    letter = "h("
-                    for (j = 1; j <= rank; j++) letter = letter (j > 1 ? "," : "") (1 + int((prime - 1) * rand()))
-                    letter = letter ")"
-                }
-                line = line " " letter
-            }
-            print line
-        }
-    }'
+# the module of dimension 7 of G2, by a table: its weights from the highest down, and on each simple root and its opposite the strings of these
+seven() {
+    echo 'module v table 7 14'
+    printf 'weight %s\n' '1 0' '-1 1' '2 -1' '0 0' '-2 1' '1 -1' '-1 0'
+    printf 'entry %s\n' '1 1 1 2 1' '1 1 3 4 2' '1 1 4 5 1' '1 2 3 5 1' '1 1 6 7 1' '-1 1 2 1 1' '-1 1 4 3 1' '-1 1 5 4 2' '-1 2 5 3 1' '-1 1 7 6 1' \
+        '2 1 2 3 1' '2 1 5 6 1' '-2 1 3 2 1' '-2 1 6 5 1'
 }
 
 # a command on two words of random elements: a root element of each positive root, a torus element, letters of the Weyl group, and again
@@ -77,33 +63,35 @@ products() {
     }'
 }
 
-# so many empty words
-none() { awk -v lines="$1" 'BEGIN { for (n = 0; n < lines; n++) print "form 1" }'; }
-
-# the name of a type, the prime, the generator, the number of positive roots, lines, letters, and the rows
+# the name of a group, the prime, the generator, the number of positive roots, lines, letters, and the rows
 report() {
     name=$1 prime=$2 generator=$3 roots=$4 lines=$5 letters=$6
     shift 6
-    datum "$prime" "$generator" "$@" >"$rooms/datum"
-    { cat "$rooms/datum"; words "$roots" "$prime" $# "$lines" "$letters"; } >"$rooms/words"
-    { cat "$rooms/datum"; none "$lines"; } >"$rooms/none"
-    awk -v name="$name($prime)" -v words="$(least "$rooms/words")" -v none="$(least "$rooms/none")" -v lines="$lines" -v letters="$letters" \
-        'BEGIN { printf "lie  %-6s %10.1f microseconds a word of %d letters (%d lines: %.2f s)\n", name, 1e6 * (words - none) / lines, letters, lines, words }'
+    datum "$prime" "$generator" "$@" >"$rooms/head"
+    words "$roots" "$prime" $# "$lines" "$letters" >"$rooms/lines"
+    repeated 'form 1' "$lines" >"$rooms/less"
+    ours "form of a word of $letters letters, $name($prime)" head lines less
+    if [ "$name" = G2 ]; then
+        seven >>"$rooms/head"
+        for it in lines less; do sed 's/^form/matrix v/' "$rooms/$it" >"$rooms/matrix_$it"; done
+        ours "matrix of dimension 7 of a word of $letters letters, $name($prime)" head matrix_lines matrix_less
+        theirs "matrix of dimension 7 of a word of $letters letters, $name($prime)" 'Words()' 200 $((lines / 200))
+    fi
 }
 
-# the name of a type, the prime, the generator, the number of positive roots, lines, and the rows: the product of two forms
+# the name of a group, the prime, the generator, the number of positive roots, lines, the dimension, and the rows: the product of two forms
 report_product() {
-    name=$1 prime=$2 generator=$3 roots=$4 lines=$5
-    shift 5
-    datum "$prime" "$generator" "$@" >"$rooms/datum"
-    { cat "$rooms/datum"; products both "$roots" "$prime" $# "$lines"; } >"$rooms/both"
-    { cat "$rooms/datum"; products apart "$roots" "$prime" $# "$lines"; } >"$rooms/apart"
-    awk -v name="$name($prime)" -v both="$(least "$rooms/both")" -v apart="$(least "$rooms/apart")" -v lines="$lines" \
-        'BEGIN { printf "lie  %-6s %10.1f microseconds a product of two forms (%d lines: %.2f s)\n", name, 1e6 * (both - apart) / lines, lines, both }'
+    name=$1 prime=$2 generator=$3 roots=$4 lines=$5 n=$6
+    shift 6
+    datum "$prime" "$generator" "$@" >"$rooms/head"
+    products both "$roots" "$prime" $# "$lines" >"$rooms/both"
+    products apart "$roots" "$prime" $# "$lines" >"$rooms/apart"
+    ours "product of two forms, $name($prime)" head both apart
+    theirs "product of two matrices of dimension $n over $prime" "Matrices($prime, $n)" 20 $((1 + 2000000 / n / n / n))
 }
 
-"$top/prove" >&2
 echo "$types" | while read -r name prime generator roots count rows; do
+    [ -n "$name" ] && is_asked "$name" "$@" || continue
     case $name in
     G2 | F4 | E6)
         # shellcheck disable=SC2086
@@ -111,17 +99,14 @@ echo "$types" | while read -r name prime generator roots count rows; do
         ;;
     E8)
         # shellcheck disable=SC2086
-        report "$name" "$prime" "$generator" "$roots" 1 4096 $rows
+        report "$name" "$prime" "$generator" "$roots" 20 4096 $rows
         ;;
     esac
 done
 
-echo "$product_types" | while read -r name prime generator roots lines rows; do
+[ $# -eq 0 ] || exit 0
+echo "$product_types" | while read -r name prime generator roots lines n rows; do
     [ -n "$name" ] || continue
     # shellcheck disable=SC2086
-    report_product "$name" "$prime" "$generator" "$roots" "$lines" $rows
+    report_product "$name" "$prime" "$generator" "$roots" "$lines" "$n" $rows
 done
-
-if [ -n "${GAP:-}" ]; then
-    cd "$here" && "$GAP" -q -b collection.g </dev/null && "$GAP" -q -b products.g </dev/null
-fi

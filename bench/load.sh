@@ -5,5 +5,6 @@
 #   sh bench/load.sh E_8 A_8     some, over two and over three elements
 set -eu
 here=$(cd "$(dirname "$0")" && pwd)
-"$(dirname "$here")/prove" >&2
+top=$(dirname "$here")
+. "$here/program.sh"
 exec python3 "$here/load.py" "$@"

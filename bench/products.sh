@@ -6,5 +6,6 @@
 # It needs python3 and Linux's /proc.
 set -eu
 here=$(cd "$(dirname "$0")" && pwd)
-"$(dirname "$here")/prove" >&2
+top=$(dirname "$here")
+. "$here/program.sh"
 exec python3 "$here/products.py" "$@"

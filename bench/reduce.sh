@@ -5,4 +5,6 @@
 #
 # It needs python3 and Linux's /proc.
 here=$(cd "$(dirname "$0")" && pwd)
-"$here/../prove" >&2 && exec python3 "$here/reduce.py"
+top=$(dirname "$here")
+. "$here/program.sh"
+exec python3 "$here/reduce.py"

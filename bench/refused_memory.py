@@ -89,7 +89,9 @@ class Faults:
         return got
 
     def allocations(self):
-        count = self.run(self.plain)[3][0]
+        plain = self.run(self.plain)
+        count = plain[3][0]
+        self.check(count > 0, "no allocation was seen", plain)
         unnoticed = 0
         for k in range(1, count + 2):
             got = self.run(REFUSE_ALLOCATION=k)

@@ -29,7 +29,7 @@ lines_of() {
         inside && index($0, mark) == 1 { print substr($0, 3) }' "$top/crates/test_transcripts/stdin"
 }
 
-"$top/prove" >&2 || exit 70
+. "$here/program.sh"
 if command -v python3 >/dev/null 2>&1; then python3 "$here/relations.py" "$rooms/worked" >/dev/null; fi
 failed=0
 for name in A2 G2; do
@@ -42,7 +42,7 @@ for name in A2 G2; do
 done
 for script in "$here"/relations/*.lie; do
     name=$(basename "$script" .lie)
-    "$top/crates/lie_cli/out/lie_cli" run <"$script" >"$rooms/out" || failed=1
+    "$PROGRAM" run <"$script" >"$rooms/out" || failed=1
     set -- $(differing "$script" "$rooms/out")
     [ "$2" = 0 ] || failed=1
     worked=

@@ -9,8 +9,7 @@
 set -u
 here=$(cd "$(dirname "$0")" && pwd)
 top=$(dirname "$here")
-program=$top/crates/lie_cli/out/lie_cli
-"$top/prove" >&2 || exit 70
+. "$here/program.sh"
 room=$(mktemp -d)
 trap 'rm -rf "$room"' EXIT
 usage='usage: lie run | lie check | lie demo <n>'
@@ -42,7 +41,7 @@ told() {
 case_of() {
     name=$1 script=$2 status=$3 output=$4 error=$5
     shift 5
-    printf "$script" | "$program" "$@" >"$room/output" 2>"$room/error"
+    printf "$script" | "$PROGRAM" "$@" >"$room/output" 2>"$room/error"
     told "$name" $? "$status" "$output" "$error"
 }
 
@@ -66,35 +65,35 @@ case_of 'a word that is no UTF-8' "$torus" 2 '' "$usage" "$(printf '\377')"
 case_of 'a second word that is no UTF-8' "$torus" 2 '' "$usage" run "$(printf 'a\200')"
 
 # a folder can be opened and not read
-"$program" run <"$top/examples" >"$room/output" 2>"$room/error"
+"$PROGRAM" run <"$top/examples" >"$room/output" 2>"$room/error"
 told 'a folder as input' $? 4 '' 'lie: read fault'
-"$program" run <&- >"$room/output" 2>"$room/error"
+"$PROGRAM" run <&- >"$room/output" 2>"$room/error"
 told 'a closed input' $? 4 '' 'lie: read fault'
 
 # a device that is always full
 if [ -w /dev/full ]; then
     : >"$room/output"
-    printf "$torus" | "$program" run >/dev/full 2>"$room/error"
+    printf "$torus" | "$PROGRAM" run >/dev/full 2>"$room/error"
     told 'a full device' $? 5 '' 'lie: write fault'
 fi
 : >"$room/output"
-printf "$torus" | "$program" run >&- 2>"$room/error"
+printf "$torus" | "$PROGRAM" run >&- 2>"$room/error"
 told 'a closed output' $? 5 '' 'lie: write fault'
 
 # about the size of the input, which is kept whole
 lines_of() { { printf "$torus"; head -c "$1" /dev/zero | tr '\0' '\n'; }; }
-lines_of 16777187 | (ulimit -v 20000 && exec "$program" run) >"$room/output" 2>"$room/error"
+lines_of 16777187 | (ulimit -v 20000 && exec "$PROGRAM" run) >"$room/output" 2>"$room/error"
 told 'little memory' $? 6 '' 'lie: no memory'
 
-lines_of 16777187 | "$program" run >"$room/output" 2>"$room/error"
+lines_of 16777187 | "$PROGRAM" run >"$room/output" 2>"$room/error"
 told '16777216 bytes' $? 0 "$loaded" ''
-lines_of 16777188 | "$program" run >"$room/output" 2>"$room/error"
+lines_of 16777188 | "$PROGRAM" run >"$room/output" 2>"$room/error"
 told '16777217 bytes' $? 7 '' 'lie: input too long'
-lines_of 16777188 | "$program" check >"$room/output" 2>"$room/error"
+lines_of 16777188 | "$PROGRAM" check >"$room/output" 2>"$room/error"
 told '16777217 bytes in a check' $? 7 '' 'lie: input too long'
 
 # what the program wrote stays where nobody takes what it says of a failure
-printf "$torus" | "$program" walk >"$room/output" 2>&-
+printf "$torus" | "$PROGRAM" walk >"$room/output" 2>&-
 got=$?
 : >"$room/error"
 told 'a closed standard error' "$got" 2 '' ''
