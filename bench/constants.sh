@@ -16,7 +16,8 @@ top=$(dirname "$here")
 e8 | grep -v load >"$rooms/head"
 echo 'collect 1' >"$rooms/lines"
 : >"$rooms/less"
-ours 'structure constants, E8' head lines less
+echo 'load' >"$rooms/tail"
+ours 'structure constants, E8' head lines less tail
 if [ -n "${GAP:-}" ]; then
     echo 'Read("lie_data.g");' >"$rooms/head"
     echo 'LieData("E", 8);;' >"$rooms/lines"

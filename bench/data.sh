@@ -66,8 +66,8 @@ is_asked() {
     return 1
 }
 
-# a figure of the program, by files in the room: what, the lines before, the lines, and those that are taken off
-ours() { python3 "$here/figure.py" lie "$1" --head "$rooms/$2" --lines "$rooms/$3" --less "$rooms/$4" -- "$PROGRAM" run; }
+# a figure of the program, by files in the room: what, the lines before, the lines, those that are taken off, and those that end the run, if there are any
+ours() { python3 "$here/figure.py" lie "$1" --head "$rooms/$2" --lines "$rooms/$3" --less "$rooms/$4" ${5:+--tail "$rooms/$5"} -- "$PROGRAM" run; }
 
 # a figure of GAP, where GAP names it: what, the line that makes the factors (products.g), how many of them it makes, and how often all are multiplied
 theirs() {

@@ -1,12 +1,12 @@
 #!/usr/bin/env python3
 """Measures one thing, and prints one line of it: who, what, its processor time in microseconds, and the number of its instructions.
 
-    python3 figure.py WHO WHAT [--head FILE] --lines FILE [--less FILE] [--each N] -- COMMAND ..
+    python3 figure.py WHO WHAT [--head FILE] --lines FILE [--less FILE] [--tail FILE] [--each N] -- COMMAND ..
     python3 figure.py WHO WHAT --times N -- COMMAND ..
 
 The command reads the head, and then the lines of each file. The figure is what it costs to read and obey those of --lines less those of --less, divided
-by the number of lines in --lines, and by that of things in each. Or else the command has one more word, how often it does the thing: the figure is
-the cost of a run with N less one with 0, divided by N.
+by the number of lines in --lines, and by that of things in each; those of --tail are read behind, so that the command ends well. Or else the command
+has one more word, how often it does the thing: the figure is the cost of a run with N less one with 0, divided by N.
 
 The time is the least of five runs, or of RUNS in the environment. Instructions are counted if INSTRUCTIONS is there, by valgrind, on the
 twentieth part of the lines. With PART in the environment the lines are cut to such a part for both.
@@ -36,7 +36,7 @@ class Lines:
 
     def __init__(self, options):
         self.command, self.each = options.command, options.each
-        self.head, self.lines, self.less = read(options.head), read(options.lines), read(options.less)
+        self.head, self.lines, self.less, self.tail = (read(it) for it in (options.head, options.lines, options.less, options.tail))
 
     def cost(self, part, folder):
         """The cost of one thing, as found in one run."""
@@ -46,6 +46,7 @@ class Lines:
         session.give(b"".join(self.head))
         base = session.cost(b"".join(self.less[:less])) if less else 0
         whole = session.cost(b"".join(self.lines[:count]))
+        session.give(b"".join(self.tail))
         session.end()
         return base, whole, count * self.each
 
@@ -83,6 +84,7 @@ def main():
     parser.add_argument("--head")
     parser.add_argument("--lines")
     parser.add_argument("--less")
+    parser.add_argument("--tail")
     parser.add_argument("--each", type=int, default=1)
     parser.add_argument("--times", type=int)
     parser.add_argument("command", nargs="+")
